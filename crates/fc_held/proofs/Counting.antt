@@ -13,9 +13,8 @@ use Rattle.fc_decided.proofs.Lists.{first_in, later_in}
 use Rattle.fc_desk.proofs.Counting.{count_cons}
 use Rattle.fc_grains.specs.Grains.{GrainsState, pool_of}
 use Rattle.fc_grains.specs.Volumes.{VolumeGrains}
-use Rattle.fc_kept.specs.Disks.{NamedDisk}
+use Rattle.fc_kept.specs.Disks.{NamedDisk, is_free, is_kind}
 use Rattle.fc_mdisk.specs.Disk.{DiskState, is_flat}
-use Rattle.law_crash.specs.Leaving.{is_free, is_kind}
 use Rattle.fc_held.specs.Held.{HeldBy, HoldLane, HasNoName, is_known}
 
 -- ---- counts

@@ -12,13 +12,12 @@ use Rattle.fc_decided.proofs.Lists.{first_in, later_in, in_cases, none_in, any_f
 use Rattle.fc_entry.specs.Picture.{Bytes}
 use Rattle.fc_grains.specs.Grains.{GrainsState}
 use Rattle.fc_grains.specs.Volumes.{HoldsGrains, VolumeGrains, is_there}
-use Rattle.fc_kept.specs.Disks.{NamedDisk, is_of, disk_of, on_disk}
+use Rattle.fc_kept.specs.Disks.{NamedDisk, is_of, disk_of, on_disk, is_free}
 use Rattle.fc_kept.specs.Kept.{Kept, is_lost_in}
 use Rattle.fc_kept.specs.Recoverable.{disks_at}
 use Rattle.fc_lane.specs.Lane.{LaneView}
 use Rattle.fc_mdisk.specs.Disk.{grain_at}
 use Rattle.fc_rules.specs.LaneTold.{LaneOf, number_at}
-use Rattle.law_crash.specs.Leaving.{is_free}
 use Rattle.law_crash.proofs.Disks.{find_by}
 use Rattle.law_agreeing.specs.Agreeing.{Agree, AllAgree, SameSize, lane_over}
 use Rattle.fc_held.specs.Held.{HeldBy, HoldLane, HoldAllOf, HasNoName, HasDisk, Matches, MatchAll, is_known, name_below}

@@ -2,35 +2,21 @@
 use Rattle.std.proofs.Common.{arith, ◌≡◌, ℕ, suc, ◌<◌, ◌==◌, ◌||◌, Bool, true, false, cond, not, ◌&&◌, is_some, Option, Some, None, List, [], ◌∷◌, length, map, Contains, inl, inr, refl, sym, ap, subst, ◌∙◌}
 use Rattle.std.specs.List.{AllZip, filter, list_any}
 use Rattle.std.specs.Prelude.{ltb}
-use Rattle.std.proofs.lemmas.Bool.{cases_Bool}
 use Rattle.fc_base.specs.Pools.{of_kind}
 use Rattle.fc_base.specs.declared.disk.DiskKind.{DiskKind}
 use Rattle.fc_decided.proofs.Lists.{map_from, map_in}
 use Rattle.fc_entry.specs.Picture.{content_at}
 use Rattle.fc_grains.specs.Grains.{GrainsState}
 use Rattle.fc_grains.specs.Volumes.{VolumeGrains, is_there, stored, volume_of}
-use Rattle.fc_kept.specs.Disks.{NamedDisk, is_of, disk_of, on_disk}
+use Rattle.fc_kept.specs.Disks.{NamedDisk, disk_of, on_disk, is_free, is_kind}
 use Rattle.fc_kept.specs.Kept.{Kept, is_lost_in}
 use Rattle.fc_rules.specs.LaneTold.{LaneOf, number_at}
 use Rattle.fc_steps.specs.Standing.{VolumeKind, kind_of_grains}
 use Rattle.law_crash.specs.Doing.{SameDisk}
-use Rattle.law_crash.specs.Leaving.{is_free, is_kind}
-use Rattle.law_crash.proofs.Disks.{find_by, same_name, was_of}
+use Rattle.law_crash.proofs.Disks.{now_of, was_of}
 use Rattle.fc_held.specs.Held.{AreOnce, GoesAlong, Matches, StayHeld, is_known}
 
 -- ---- the disk of a volume
-
-now_of : (xs ys : List NamedDisk) (v : ℕ) (d : NamedDisk) → AllZip SameDisk xs ys → disk_of xs v ≡ Some d → (new : NamedDisk) × (disk_of ys v ≡ Some new) × SameDisk d new
-now_of [] [] v d s e = absurd cc
-now_of [] (y ∷ ys) v d s e = absurd s
-now_of (x ∷ xs) [] v d s e = absurd s
-now_of (x ∷ xs) (y ∷ ys) v d s e =
-    elim (cases_Bool (is_of v x)) [
-      | inl t ↦ let q : x ≡ d = (let f : Some x ≡ Some d = sym (find_by v x xs true t) ∙ e in cc) in
-          (y, find_by v y ys true (same_name v x y s.0 ∙ t), subst (λ (z : NamedDisk). SameDisk z y) q s.0)
-      | inr f ↦ let r = now_of xs ys v d s.1 (sym (find_by v x xs false f) ∙ e) in
-          (r.0, find_by v y ys false (same_name v x y s.0 ∙ f) ∙ r.1, r.2)
-    ]
 
 still_none : (xs ys : List NamedDisk) (v : ℕ) (o : Option NamedDisk) → disk_of ys v ≡ o → AllZip SameDisk xs ys → disk_of xs v ≡ None → disk_of ys v ≡ None
 still_none xs ys v None e s none = e

@@ -9,14 +9,13 @@ use Rattle.fc_base.specs.declared.volume.Volume.{Volume}
 use Rattle.fc_entry.specs.Picture.{content_at}
 use Rattle.fc_grains.specs.Grains.{GrainsState, pool_of, total_of}
 use Rattle.fc_grains.specs.Volumes.{HoldsGrains, VolumeGrains, is_there, stored, volume_of}
-use Rattle.fc_kept.specs.Disks.{NamedDisk, disk_of, on_disk}
+use Rattle.fc_kept.specs.Disks.{NamedDisk, disk_of, on_disk, is_free, is_kind}
 use Rattle.fc_kept.specs.Kept.{Kept, is_lost_in}
 use Rattle.fc_kept.specs.Recoverable.{disks_at}
 use Rattle.fc_lane.specs.Lane.{LaneView}
 use Rattle.fc_rules.specs.LaneTold.{LaneOf, number_at}
 use Rattle.fc_stands.specs.Store.{StoreView}
 use Rattle.fc_steps.specs.Standing.{kind_of_grains}
-use Rattle.law_crash.specs.Leaving.{is_free, is_kind}
 use Rattle.law_agreeing.specs.Agreeing.{lane_over}
 
 -- ---- what a lane gives back

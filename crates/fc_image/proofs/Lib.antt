@@ -1,2 +1,3 @@
--- Lemmas on images with records applied.
+-- Lemmas on bits, and on images with records applied.
+pub mod Bits
 pub mod Folds

@@ -1,6 +1,7 @@
 //! Rows of bits in words of 64.
 
 ghost use Rattle.std.specs.Prelude.{◌≡◌, ◌++◌, [], ◌∷◌, length, IfOk, OnOk, OnErr};
+ghost use Rattle.fc_bits.specs.Words.{bit_of};
 ghost use Rattle.fc_image.specs.Words.{with_bit, without_bit, bit_put};
 
 use fc_base::outcome::NoMemory;
@@ -43,6 +44,19 @@ impl Words {
         ensures { result.now ≡ self.now }
     {
         self.words.as_slice()
+    }
+
+    /// Whether the grain's bit is set; past the last word none is.
+    pub fn has(&self, grain: u32) -> bool
+        ensures { result ≡ bit_of self.now grain }
+    {
+        let words = self.as_slice();
+        let place = grain as usize / 64;
+        if place < words.len() {
+            words[place] >> (grain % 64) & 1 == 1
+        } else {
+            false
+        }
     }
 
     /// Puts a word at the end. Refused, the words are as they were.

@@ -5,10 +5,8 @@ ghost use Rattle.std.specs.List.{range_with_len};
 ghost use Rattle.fc_base.specs.Sheet.{slot_at};
 ghost use Rattle.fc_bits.specs.Words.{words_for};
 ghost use Rattle.fc_imaging.specs.Bits.{bit_told};
-ghost use Rattle.fc_imaging.specs.Imaging.{is_lost_at};
 ghost use Rattle.fc_kept.specs.Images.{words_of};
-ghost use Rattle.fc_lane_sheet.specs.LaneSheet.{chains_of, rows_of};
-ghost use Rattle.fc_sums.specs.Parts.{holds_at, row_at, same_at};
+ghost use Rattle.fc_sums.specs.Parts.{row_at};
 
 use fc_base::ids::VolId;
 use fc_base::outcome::NoMemory;
@@ -74,48 +72,21 @@ fn row_has(rows: &[Tracked], place: usize, grain: u32) -> bool
     }
 }
 
-/// Whether the slot at a place holds the grain.
-fn holds<D: Mdisk>(lanes: &[Lane<D>], place: usize, grain: u32) -> bool
-    ensures { result ≡ holds_at (chains_of lanes.now) place grain }
-{
-    if lanes.is_empty() {
-        return false;
-    }
-    let spot = spot_of(lanes.len(), grain);
-    slot_holds(lanes[spot.lane].cascade().all_slots(), place, spot.place)
-}
-
-/// Whether both volumes of the row at a place show the same at the grain.
-fn is_same<D: Mdisk>(lanes: &[Lane<D>], place: usize, grain: u32) -> bool
-    ensures { result ≡ same_at (rows_of lanes.now) place grain }
-{
-    if lanes.is_empty() {
-        return false;
-    }
-    let spot = spot_of(lanes.len(), grain);
-    row_has(lanes[spot.lane].changes().rows(), place, spot.place)
-}
-
-/// Whether the volume's grain is lost.
-fn is_lost<D: Mdisk>(lanes: &[Lane<D>], volume: VolId, grain: u32) -> bool
-    ensures { result ≡ is_lost_at lanes.now volume.0 grain }
-{
-    if lanes.is_empty() {
-        return true;
-    }
-    let spot = spot_of(lanes.len(), grain);
-    lanes[spot.lane].is_unreadable(volume, spot.place)
-}
-
 /// Whether the grain's bit is set.
 fn bit<D: Mdisk>(lanes: &[Lane<D>], bits: Bits, grain: u32) -> bool
     ensures { result ≡ bit_told lanes.now bits grain }
 {
+    // (without lanes nothing is held)
+    if lanes.is_empty() {
+        return !matches!(bits, Bits::Held(_));
+    }
+    let spot = spot_of(lanes.len(), grain);
+    let lane = &lanes[spot.lane];
     match bits {
-        Bits::Held(place) => holds(lanes, place, grain),
-        Bits::Changed(place) => !is_same(lanes, place, grain),
+        Bits::Held(place) => slot_holds(lane.cascade().all_slots(), place, spot.place),
+        Bits::Changed(place) => !row_has(lane.changes().rows(), place, spot.place),
         Bits::Kept => true,
-        Bits::Lost(volume) => is_lost(lanes, volume, grain),
+        Bits::Lost(volume) => lane.is_unreadable(volume, spot.place),
     }
 }
 

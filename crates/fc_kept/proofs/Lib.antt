@@ -1,5 +1,6 @@
 -- Lemmas, one subject a file; and the definitions on closed examples.
 pub mod Words
+pub mod Free
 pub mod Sizes
 pub mod Said
 pub mod Recorded

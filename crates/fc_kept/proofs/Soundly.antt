@@ -104,7 +104,7 @@ lost_sound_put t v g b rows all =
           put_size v g b row ∙ (all.sizes k d kl ∙ ap (λ (z : ℕ). let id : VolId = record { 0 = z } in size_in t id) (sym (put_volume v g b row))));
     }
 
-lost_sounds : (t : Tables) (lost : List LostGrains) (r : MetaRecord) → AreLost t lost → AreLost t (lost_kept lost r)
+pub lost_sounds : (t : Tables) (lost : List LostGrains) (r : MetaRecord) → AreLost t lost → AreLost t (lost_kept lost r)
 lost_sounds t lost (Pair slot volume grain true empty) all = all
 lost_sounds t lost (Pair slot volume grain false empty) all = lost_sound_put t volume.0 grain.0 empty lost all
 lost_sounds t lost (Written volume grain) all = lost_sound_put t volume.0 grain.0 false lost all

@@ -1,6 +1,8 @@
 -- The disks that a store comes back with, and what stands on them by metadata.
-use Rattle.std.specs.Prelude.{◌≡◌, ℕ, Bool, false, ◌==◌, if◌then◌else◌, List, length, find, Contains, Option, Some, None}
+use Rattle.std.specs.Prelude.{◌≡◌, ℕ, Bool, true, false, not, ◌&&◌, ◌==◌, if◌then◌else◌, List, length, find, Contains, Option, Some, None, is_some}
 use Rattle.fc_base.specs.Tables.{Tables}
+use Rattle.fc_base.specs.declared.disk.DiskKind.{DiskKind}
+use Rattle.fc_base.specs.declared.disk.DiskKind.TheVariants.{Flat, Thin}
 use Rattle.fc_base.specs.declared.ids.VolId.{VolId}
 use Rattle.fc_base.specs.declared.volume.Volume.{Volume}
 use Rattle.fc_entry.specs.Picture.{Content, Bytes, Lost, zeros}
@@ -23,6 +25,15 @@ is_of v disk = named disk.volume
 
 abbrev pub disk_of : List NamedDisk → ℕ → Option NamedDisk
 disk_of disks v = find (is_of v) disks
+
+-- Whether two kinds are one; and whether a disk is free for a new volume of this kind.
+abbrev pub is_kind : DiskKind → DiskKind → Bool
+is_kind Flat Flat = true
+is_kind Thin Thin = true
+is_kind kind other = false
+
+abbrev pub is_free : DiskKind → NamedDisk → Bool
+is_free kind disk = not (is_some disk.volume) && is_kind kind disk.disk.kind
 
 -- What a lane's disks store of each volume at a place, if metadata says so much: lost where it says so, else the bytes on the
 -- volume's disk. A volume without a disk gets one with zeros.

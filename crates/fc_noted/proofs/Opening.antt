@@ -21,7 +21,7 @@ use Rattle.fc_grains.specs.Volumes.{VolumeGrains}
 use Rattle.fc_grains.proofs.KindCounts.{total-pool}
 use Rattle.fc_image.specs.declared.image.MetaImage.{MetaImage}
 use Rattle.fc_imaging.specs.Imaging.{kept_of, lost_grains}
-use Rattle.fc_kept.specs.Disks.{NamedDisk, disk_of}
+use Rattle.fc_kept.specs.Disks.{NamedDisk, disk_of, is_free, is_kind}
 use Rattle.fc_kept.specs.Images.{kept_in, meta_of}
 use Rattle.fc_kept.specs.Kept.{Kept}
 use Rattle.fc_kept.specs.Recoverable.{disks_at}
@@ -41,7 +41,7 @@ use Rattle.fc_script.specs.declared.script.Script.{Script}
 use Rattle.fc_script.specs.declared.script.Script.TheVariants.{Over}
 use Rattle.fc_stands.specs.Store.{StandsFor, StoreView}
 use Rattle.law_agreeing.specs.Agreeing.{lane_over}
-use Rattle.law_crash.specs.Leaving.{HaveTheirDisks, is_free, is_kind}
+use Rattle.law_crash.specs.Leaving.{HaveTheirDisks}
 use Rattle.law_crash.specs.Points.{nothing_kept}
 use Rattle.law_crash.specs.Running.{Run.begun}
 use Rattle.law_crash.proofs.Opening.{opens}

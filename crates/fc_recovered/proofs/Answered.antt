@@ -3,7 +3,7 @@ use Rattle.std.proofs.Common.{◌≡◌, ℕ, ◌*◌, ◌/◌, ◌%◌, ◌<◌
 use Rattle.std.specs.Prelude.{◌==◌, ◌&&◌, not, find}
 use Rattle.std.specs.List.{flat_map}
 use Rattle.std.proofs.Math.Nat.{mod-lt}
-use Rattle.fc_base.specs.Grain.{block_bytes}
+use Rattle.fc_base.specs.Grain.{block_bytes, grain_blocks}
 use Rattle.fc_base.specs.Tables.{Tables}
 use Rattle.fc_base.specs.declared.ids.VolId.{VolId}
 use Rattle.fc_base.specs.declared.request.ReadPart.{ReadPart}
@@ -63,6 +63,10 @@ pub record Asked (grain : GrainSize) (image : MetaImage) (disks : List (List Nam
   pub holds : IsRecovered grain image disks buffer
   pub inside : IsInside grain (tables_in image) part.volume part.block part.count
   pub number_is : number ≡ grain_of_block grain part.block
+
+pub asked : (grain : GrainSize) (image : MetaImage) (disks : List (List NamedDisk)) (buffer : List ℕ) (part : ReadPart) (blocks : ℕ) → IsRecovered grain image disks buffer →
+    IsInside grain (tables_in image) part.volume part.block part.count → blocks ≡ grain_blocks grain → Asked grain image disks buffer part (part.block / blocks)
+asked grain image disks buffer part blocks holds inside e = record { holds = holds; inside = inside; number_is = ap (λ (n : ℕ). part.block / n) e }
 
 source : (grain : GrainSize) (image : MetaImage) (disks : List (List NamedDisk)) (buffer : List ℕ) (part : ReadPart) (number : ℕ) → Asked grain image disks buffer part number →
     Source image part.volume.0 number

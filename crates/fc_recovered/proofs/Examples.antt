@@ -8,10 +8,9 @@ use Rattle.fc_base.specs.declared.disk.DiskKind.TheVariants.{Flat, Thin}
 use Rattle.fc_base.specs.declared.ids.VolId.{VolId}
 use Rattle.fc_base.specs.declared.size.GrainSize.TheVariants.{K64}
 use Rattle.fc_entry.specs.Picture.{Bytes, Lost}
-use Rattle.fc_kept.specs.Disks.{NamedDisk}
+use Rattle.fc_kept.specs.Disks.{NamedDisk, is_free}
 use Rattle.fc_kept.specs.Kept.{Kept}
 use Rattle.fc_mdisk.specs.Disk.{blank}
-use Rattle.fc_recovered.specs.Readying.{is_new_of}
 use Rattle.fc_recovered.specs.Showing.{shown_at}
 use Rattle.fc_recovered.specs.Walk.{holder_volume}
 
@@ -77,11 +76,11 @@ walk_own : holder_volume 1 1 (source ∷ target ∷ []) ≡ Some 1
 walk_own = refl
 
 -- which disk is for a new volume
-is_free : is_new_of Flat (disk None 99) ≡ true
-is_free = refl
+nobodys : is_free Flat (disk None 99) ≡ true
+nobodys = refl
 
-is_named : is_new_of Flat (disk (Some (vol 0)) 10) ≡ false
+is_named : is_free Flat (disk (Some (vol 0)) 10) ≡ false
 is_named = refl
 
-is_flat : is_new_of Thin (disk None 99) ≡ false
+is_flat : is_free Thin (disk None 99) ≡ false
 is_flat = refl

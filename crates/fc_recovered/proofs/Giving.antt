@@ -1,7 +1,7 @@
 -- The disk that a volume gets that came back without one: with it, every volume has its disk, and shows what it did.
 use Rattle.std.proofs.Common.{◌≡◌, ◌≢◌, ℕ, ◌<◌, ◌≤◌, Bool, true, false, cond, Option, Some, None, List, [], length, set, replicate, refl, sym, ap, subst, ◌∙◌, arith, All, Contains, inl, inr}
 use Rattle.std.specs.Prelude.{find, position, is_none}
-use Rattle.std.proofs.lemmas.Bool.{both_ways, and_parts, and_from, cases_lt, cases_eq, eq-eqb, ne_eqb, lt-ltb}
+use Rattle.std.proofs.lemmas.Bool.{both_ways, cases_lt, cases_eq, eq-eqb, ne_eqb, lt-ltb}
 use Rattle.std.specs.List.{position_or_len}
 use Rattle.std.proofs.lemmas.List.Sums.{fails_before_first}
 use Rattle.std.proofs.lemmas.List.{length-replicate, get_or-replicate}
@@ -10,34 +10,20 @@ use Rattle.std.proofs.lemmas.List.Folds.{find_past}
 use Rattle.std.proofs.lemmas.List.Quantifiers.{position-Some}
 use Rattle.fc_base.specs.Grain.{grain_bytes}
 use Rattle.fc_base.specs.Tables.{Tables, IsOrdered}
-use Rattle.fc_base.specs.declared.disk.DiskKind.{DiskKind}
-use Rattle.fc_base.specs.declared.disk.DiskKind.TheVariants.{Flat, Thin}
-use Rattle.fc_base.specs.declared.ids.VolId.{VolId}
 use Rattle.fc_base.specs.declared.volume.Volume.{Volume}
 use Rattle.fc_decided.proofs.Lists.{find_from, find_misses, find_none}
 use Rattle.fc_decided.proofs.Ordered.{one_of_id}
 use Rattle.fc_entry.specs.Picture.{Bytes}
-use Rattle.fc_kept.specs.Disks.{NamedDisk, FitDisks, is_of, disk_of, on_disk}
+use Rattle.fc_kept.specs.Disks.{NamedDisk, FitDisks, is_of, disk_of, on_disk, is_free}
+use Rattle.fc_kept.proofs.Free.{free_is, free_now, nobodys}
 use Rattle.fc_moves.proofs.Search.{cases_option}
 use Rattle.fc_rules.specs.LaneTold.{LaneOf, grains_in}
 use Rattle.fc_recovered.specs.Answering.{no_disk, disk_in}
-use Rattle.fc_recovered.specs.Readying.{is_kind_of, is_new_of, given_to, given_from, given, is_diskless, readied, HasWholeGrains, HasOwnDisk, AllHaveDisks}
+use Rattle.fc_recovered.specs.Readying.{given_to, given_from, given, is_diskless, readied, HasWholeGrains, HasOwnDisk, AllHaveDisks}
 use Rattle.fc_recovered.proofs.Carrying.{StoreSame}
 use Rattle.fc_recovered.proofs.Finding.{find_only}
 
 -- ---- tests
-
-one_kind : (a b : DiskKind) → is_kind_of a b ≡ true → b ≡ a
-one_kind Flat Flat e = refl
-one_kind Thin Thin e = refl
-one_kind Flat Thin e = absurd cc
-one_kind Thin Flat e = absurd cc
-
-same_kind : (a b : DiskKind) → b ≡ a → is_kind_of a b ≡ true
-same_kind Flat Flat e = refl
-same_kind Thin Thin e = refl
-same_kind Flat Thin e = absurd cc
-same_kind Thin Flat e = absurd cc
 
 none_is : {X : Type 0} (o : Option X) → is_none o ≡ true → o ≡ None
 none_is None e = refl
@@ -46,9 +32,6 @@ none_is (Some x) e = absurd cc
 some_is : {X : Type 0} (o : Option X) → is_none o ≡ false → (x : X) × (o ≡ Some x)
 some_is None e = absurd cc
 some_is (Some x) e = (x, refl)
-
-nobodys : (v : ℕ) (disk : NamedDisk) → disk.volume ≡ None → is_of v disk ≡ false
-nobodys v disk e = ap (λ (o : Option VolId). is_of v (record disk { volume = o })) e
 
 pub position_none : {X : Type 0} (p : X → Bool) (xs : List X) → position p xs ≡ None → find p xs ≡ None
 position_none p xs e =
@@ -69,7 +52,7 @@ record Lacking (l : LaneOf) (t : Tables) (disks : List NamedDisk) (v : Volume) (
   within : Contains t.volumes v
   lacks : disk_of disks v.id.0 ≡ None
   there : p < length disks
-  new : is_new_of v.kind (disk_in disks p) ≡ true
+  new : is_free v.kind (disk_in disks p) ≡ true
 
 abbrev after : LaneOf → Volume → List NamedDisk → ℕ → List NamedDisk
 after l v disks p = set disks p (given_to l v (disk_in disks p))
@@ -81,20 +64,18 @@ own_disk l t disks v p a = find_only (is_of v.id.0) disks p (given_to l v (disk_
 -- every other volume has the disk that it had
 other_disk : (l : LaneOf) (t : Tables) (disks : List NamedDisk) (v : Volume) (p : ℕ) → Lacking l t disks v p → (w : ℕ) → v.id.0 ≢ w → disk_of (after l v disks p) w ≡ disk_of disks w
 other_disk l t disks v p a w ne =
-    let q = and_parts (is_none (disk_in disks p).volume) (is_kind_of v.kind (disk_in disks p).disk.kind) a.new in
     find_past (is_of w) disks p (given_to l v (disk_in disks p)) no_disk
-    (nobodys w (disk_in disks p) (none_is (disk_in disks p).volume q.0)) (ne_eqb v.id.0 w ne)
+    (nobodys w (disk_in disks p) (free_is v.kind (disk_in disks p) a.new).0) (ne_eqb v.id.0 w ne)
 
 same_volume : (l : LaneOf) (t : Tables) (disks : List NamedDisk) (v : Volume) (p : ℕ) → Lacking l t disks v p → (w : Volume) → Contains t.volumes w → v.id.0 ≡ w.id.0 → v ≡ w
 same_volume l t disks v p a w c e = one_of_id (λ (x : Volume). x.id.0) (λ (x : Volume). x.name) t.volumes v w a.ordered a.within c e
 
 got : (l : LaneOf) (t : Tables) (disks : List NamedDisk) (v : Volume) (p : ℕ) → Lacking l t disks v p → HasOwnDisk l (after l v disks p) v
 got l t disks v p a =
-    let q = and_parts (is_none (disk_in disks p).volume) (is_kind_of v.kind (disk_in disks p).disk.kind) a.new in
     record {
       disk = given_to l v (disk_in disks p);
       there = own_disk l t disks v p a;
-      kind = one_kind v.kind (disk_in disks p).disk.kind q.1;
+      kind = (free_is v.kind (disk_in disks p) a.new).1;
       grains = length-replicate (grains_in l v.grains) (replicate (grain_bytes l.grain) 0);
     }
 
@@ -154,15 +135,14 @@ made_ready l t disks f ordered whole =
       | inr s ↦ subst (λ (o : Option Volume). MadeReady l t disks (given l disks o)) (sym s.1) (gives s.0 (find_from (is_diskless disks) t.volumes s.0 s.1))
     ]
   where
-    gives_at : (v : Volume) → Contains t.volumes v → disk_of disks v.id.0 ≡ None → (o : Option ℕ) → position (is_new_of v.kind) disks ≡ o → MadeReady l t disks (given_from l v disks o)
+    gives_at : (v : Volume) → Contains t.volumes v → disk_of disks v.id.0 ≡ None → (o : Option ℕ) → position (is_free v.kind) disks ≡ o → MadeReady l t disks (given_from l v disks o)
     gives_at v c none None e =
         let u = f.unnamed v c none in
-        let new : is_new_of v.kind u.0 ≡ true = and_from (is_none u.0.volume) (is_kind_of v.kind u.0.disk.kind) (ap is_none u.2) (same_kind v.kind u.0.disk.kind u.3) in
-        absurd (both_ways (is_new_of v.kind u.0) (find_misses (is_new_of v.kind) disks u.0 (position_none (is_new_of v.kind) disks e) u.1) new)
+        absurd (both_ways (is_free v.kind u.0) (find_misses (is_free v.kind) disks u.0 (position_none (is_free v.kind) disks e) u.1) (free_now v.kind u.0 u.2 u.3))
     gives_at v c none (Some p) e =
-        let q = position-Some (is_new_of v.kind) disks p no_disk e in
+        let q = position-Some (is_free v.kind) disks p no_disk e in
         let a : Lacking l t disks v p = record { fit = f; ordered = ordered; within = c; lacks = none; there = q.0; new = q.1 } in
         record { ready = record { each = has_after l t disks v p a; whole = whole_after l v disks p whole }; stores = stores_after l t disks v p a }
 
     gives : (v : Volume) → Contains t.volumes v × (is_diskless disks v ≡ true) → MadeReady l t disks (given l disks (Some v))
-    gives v x = gives_at v x.0 (none_is (disk_of disks v.id.0) x.1) (position (is_new_of v.kind) disks) refl
+    gives v x = gives_at v x.0 (none_is (disk_of disks v.id.0) x.1) (position (is_free v.kind) disks) refl

@@ -3,9 +3,9 @@ use Rattle.std.proofs.Common.{◌≡◌, ℕ, zero, suc, ◌<◌, Bool, true, fa
 use Rattle.std.specs.Prelude.{find, position, is_none, is_some, not}
 use Rattle.std.proofs.lemmas.List.{get_or_default}
 use Rattle.std.proofs.lemmas.List.Quantifiers.{position-Some}
-use Rattle.fc_mdisk.specs.Disk.{AfterRead, grain_at}
+use Rattle.fc_mdisk.specs.Disk.{AfterRead}
 use Rattle.fc_kept.specs.Disks.{NamedDisk, is_of, disk_of}
-use Rattle.fc_recovered.specs.Answering.{disk_in, no_disk, HasDiskGrain, ReadsDisk}
+use Rattle.fc_recovered.specs.Answering.{disk_in, no_disk, HasDiskGrain, HasGrain, ReadsDisk}
 use Rattle.fc_recovered.proofs.Giving.{position_none}
 
 find_first : {X : Type 0} (p : X → Bool) (xs : List X) (i : ℕ) (d : X) → i < length xs → p (get_or xs i d) ≡ true → ((k : ℕ) → k < i → p (get_or xs k d) ≡ false) → find p xs ≡ Some (get_or xs i d)
@@ -43,11 +43,9 @@ its_disk disks v g bytes at d h e is =
     let f = found_at disks v at e in
     is ∙ (get_or_default disks at d no_disk f.there ∙ same_some (disk_in disks at) h.disk (sym f.found ∙ h.there))
 
-pub its_grain : (disks : List NamedDisk) (v g bytes at : ℕ) (d : NamedDisk) → HasDiskGrain disks v g bytes → Some at ≡ position (is_of v) disks → d ≡ get_or disks at d → g < length d.disk.grains
-its_grain disks v g bytes at d h e is = subst (λ (z : NamedDisk). g < length z.disk.grains) (sym (its_disk disks v g bytes at d h e is)) h.within
-
-pub its_size : (disks : List NamedDisk) (v g bytes at : ℕ) (d : NamedDisk) → HasDiskGrain disks v g bytes → Some at ≡ position (is_of v) disks → d ≡ get_or disks at d → bytes ≡ length (grain_at d.disk.grains g)
-its_size disks v g bytes at d h e is = subst (λ (z : NamedDisk). bytes ≡ length (grain_at z.disk.grains g)) (sym (its_disk disks v g bytes at d h e is)) h.size
+pub its_grain : (disks : List NamedDisk) (v g bytes at : ℕ) (d : NamedDisk) → HasDiskGrain disks v g bytes → Some at ≡ position (is_of v) disks → d ≡ get_or disks at d → HasGrain d.disk g bytes
+its_grain disks v g bytes at d h e is =
+    subst (λ (z : NamedDisk). HasGrain z.disk g bytes) (sym (its_disk disks v g bytes at d h e is)) (record { within = h.within; size = h.size })
 
 pub its_read : (disks after : List NamedDisk) (v g at : ℕ) (d new : NamedDisk) (failed : Bool) (out : List ℕ) → Some at ≡ position (is_of v) disks → d ≡ get_or disks at d →
     AfterRead d.disk g failed out new.disk → new ≡ record d { disk = new.disk } → after ≡ set disks at new → ReadsDisk disks v g failed out after

@@ -1,16 +1,14 @@
 -- The chains of an image are walked as their slots are.
-use Rattle.std.proofs.Common.{◌≡◌, ℕ, suc, ◌+◌, ◌/◌, ◌%◌, ◌^◌, ◌<◌, ◌≤◌, Bool, true, false, ◌&&◌, ◌||◌, cond, eqb, bit_and, Option, Some, List, [], ◌∷◌, ◌++◌, length, get_or, map, drop, drop-cons, add-one, refl, sym, ap, subst, ◌∙◌, All}
+use Rattle.std.proofs.Common.{◌≡◌, ℕ, suc, ◌+◌, ◌<◌, Bool, true, false, ◌&&◌, ◌||◌, cond, Option, Some, List, [], ◌∷◌, ◌++◌, length, get_or, map, drop, drop-cons, add-one, refl, sym, ap, subst, ◌∙◌, All}
 use Rattle.std.specs.Prelude.{◌==◌}
 use Rattle.std.specs.List.{flat_map, list_any}
 use Rattle.std.proofs.lemmas.Bool.{eq-eqb}
-use Rattle.std.proofs.lemmas.List.{get_or_past}
-use Rattle.std.proofs.lemmas.Nat.Bits.{bit_at-zero, shr_and_one}
 use Rattle.fc_base.specs.Sheet.{Slot}
 use Rattle.fc_base.specs.Tables.{Tables}
 use Rattle.fc_base.specs.declared.ids.VolId.{VolId}
 use Rattle.fc_bits.specs.Grains.{has}
-use Rattle.fc_bits.specs.Words.{bit_of, grains_of, is_set, IsTidy}
-use Rattle.fc_bits.proofs.Bridge.{has-tidy, bit_of-word}
+use Rattle.fc_bits.specs.Words.{bit_of, grains_of, IsTidy}
+use Rattle.fc_bits.proofs.Bridge.{has-tidy}
 use Rattle.fc_image.specs.declared.image.MetaChain.{MetaChain}
 use Rattle.fc_image.specs.declared.image.MetaLost.{MetaLost}
 use Rattle.fc_image.specs.declared.image.MetaSlot.{MetaSlot}
@@ -138,16 +136,3 @@ found_row t v g rows i row b lt is tidy own bit before =
     bit
     ∙ (ap (λ (z : Bool). cond z (bit_of row.lost g) (is_lost_in (map (lost_in t) (drop (suc i) rows)) v g)) (sym (eq-eqb row.volume.0 v own))
     ∙ (sym (lost_step t v g rows i row lt is tidy) ∙ before))
-
--- ---- bits
-
-pub bit_read : (words read : List ℕ) (g : ℕ) → read ≡ words → eqb (bit_and (get_or read (g / 64) 0 / 2 ^ (g % 64)) 1) 1 ≡ bit_of words g
-bit_read words read g e =
-    ap (λ (x : ℕ). eqb x 1) (shr_and_one (get_or read (g / 64) 0) (g % 64))
-    ∙ (ap (λ (z : List ℕ). is_set (get_or z (g / 64) 0) (g % 64)) e ∙ sym (bit_of-word words (g / 64) g refl))
-
-pub bit_past : (words read : List ℕ) (g : ℕ) → read ≡ words → length read ≤ g / 64 → false ≡ bit_of words g
-bit_past words read g e le =
-    let past : length words ≤ g / 64 = subst (λ (z : List ℕ). length z ≤ g / 64) e le in
-    ap (λ (x : ℕ). eqb x 1) (sym (bit_at-zero (g % 64)))
-    ∙ (ap (λ (x : ℕ). is_set x (g % 64)) (sym (get_or_past words (g / 64) 0 past)) ∙ sym (bit_of-word words (g / 64) g refl))

@@ -40,7 +40,11 @@ no_disk = record { volume = None; disk = blank Flat None }
 abbrev pub disk_in : List NamedDisk → ℕ → NamedDisk
 disk_in disks p = slice_index_or disks p no_disk
 
--- A lane's disk of a volume has the grain, of so many bytes.
+-- A disk has the grain, of so many bytes; and so has a lane's disk of a volume.
+pub record HasGrain (disk : DiskState) (g bytes : ℕ) : Type 0 where
+  pub within : g < length disk.grains
+  pub size : bytes ≡ length (grain_at disk.grains g)
+
 pub record HasDiskGrain (disks : List NamedDisk) (v g bytes : ℕ) : Type 0 where
   pub disk : NamedDisk
   pub there : disk_of disks v ≡ Some disk

@@ -1,13 +1,11 @@
 -- Which disk a volume gets that came back without one.
-use Rattle.std.specs.Prelude.{◌≡◌, ℕ, Bool, true, false, ◌&&◌, List, length, find, position, slice_set, Contains, All, Option, Some, None, is_none}
+use Rattle.std.specs.Prelude.{◌≡◌, ℕ, Bool, List, length, find, position, slice_set, Contains, All, Option, Some, None, is_none}
 use Rattle.fc_base.specs.Grain.{grain_bytes}
-use Rattle.fc_base.specs.declared.disk.DiskKind.{DiskKind}
-use Rattle.fc_base.specs.declared.disk.DiskKind.TheVariants.{Flat, Thin}
 use Rattle.fc_base.specs.declared.size.GrainSize.{GrainSize}
 use Rattle.fc_base.specs.declared.volume.Volume.{Volume}
 use Rattle.fc_mdisk.specs.Disk.{formatted}
 use Rattle.fc_rules.specs.LaneTold.{LaneOf, grains_in}
-use Rattle.fc_kept.specs.Disks.{NamedDisk, disk_of}
+use Rattle.fc_kept.specs.Disks.{NamedDisk, disk_of, is_free}
 use Rattle.fc_recovered.specs.Answering.{disk_in}
 use Rattle.fc_recovered.specs.declared.lane_size.LaneSize.{LaneSize}
 
@@ -18,27 +16,18 @@ of_size size = record { lane = size.lane; lanes = size.lanes; grain = size.grain
 
 -- ---- the disk
 
-abbrev pub is_kind_of : DiskKind → DiskKind → Bool
-is_kind_of Flat Flat = true
-is_kind_of Thin Thin = true
-is_kind_of kind other = false
-
--- A disk for new volumes of this kind.
-abbrev pub is_new_of : DiskKind → NamedDisk → Bool
-is_new_of kind disk = is_none disk.volume && is_kind_of kind disk.disk.kind
-
--- It becomes the volume's, with zeros for each of the volume's grains of the lane.
+-- A disk becomes the volume's, with zeros for each of the volume's grains of the lane.
 abbrev pub given_to : LaneOf → Volume → NamedDisk → NamedDisk
 given_to l v disk = record { volume = Some v.id; disk = formatted disk.disk (grains_in l v.grains) (grain_bytes l.grain) }
 
--- The first one does; without one nothing changes.
+-- The first that is free for it does; without one nothing changes.
 abbrev pub given_from : LaneOf → Volume → List NamedDisk → Option ℕ → List NamedDisk
 given_from l v disks None = disks
 given_from l v disks (Some p) = slice_set disks p (given_to l v (disk_in disks p))
 
 abbrev pub given : LaneOf → List NamedDisk → Option Volume → List NamedDisk
 given l disks None = disks
-given l disks (Some v) = given_from l v disks (position (is_new_of v.kind) disks)
+given l disks (Some v) = given_from l v disks (position (is_free v.kind) disks)
 
 -- The first volume of the table that has no disk gets one.
 abbrev pub is_diskless : List NamedDisk → Volume → Bool

@@ -11,7 +11,7 @@ ghost use Rattle.fc_kept.specs.Sound.{HasTidySlots};
 ghost use Rattle.fc_recovered.specs.Walk.{is_live_slot, chain_with, seen_with, walked, walked_on, holder_volume, id_number};
 
 use fc_base::ids::VolId;
-use fc_image::{MetaChain, MetaSlot, Words};
+use fc_image::{MetaChain, MetaSlot};
 
 /// How far the walk to a volume's live slot came, with the volume of the last slot so far that holds the grain.
 #[derive(Clone, Copy)]
@@ -20,19 +20,6 @@ pub(crate) enum Walk {
     Ended(Option<VolId>),
     /// It wasn't yet.
     Goes(Option<VolId>),
-}
-
-/// Whether a grain's bit is set; past the last word none is.
-pub(crate) fn has_bit(words: &Words, grain: u32) -> bool
-    ensures { result ≡ bit_of words.now grain }
-{
-    let words = words.as_slice();
-    let place = grain as usize / 64;
-    if place < words.len() {
-        words[place] >> (grain % 64) & 1 == 1
-    } else {
-        false
-    }
 }
 
 /// Whether the slot is the volume's live one.
@@ -44,7 +31,8 @@ fn is_live_slot(slot: &MetaSlot, volume: VolId) -> bool
 
 /// Whether the volume's live slot is in the chain.
 fn has_live(chain: &MetaChain, volume: VolId) -> bool
-    ensures { result ≡ list_any (λ (slot : MetaSlot). slot.live && (slot.volume.0 == volume.0)) chain.now.slots }
+    ensures { result ≡
+        list_any (λ (slot : MetaSlot). slot.live && (slot.volume.0 == volume.0)) chain.now.slots }
 {
     chain
         .slots
@@ -69,7 +57,7 @@ fn chain_with(chains: &[MetaChain], volume: VolId) -> Option<u64>
 fn seen_with(of_chain: bool, slot: &MetaSlot, grain: u32, seen: Option<VolId>) -> Option<VolId>
     ensures { result ≡ (if of_chain && bit_of slot.now.held grain then Some slot.now.volume else seen) }
 {
-    if of_chain && has_bit(&slot.held, grain) {
+    if of_chain && slot.held.has(grain) {
         Some(slot.volume)
     } else {
         seen
@@ -78,7 +66,9 @@ fn seen_with(of_chain: bool, slot: &MetaSlot, grain: u32, seen: Option<VolId>) -
 
 /// Walks along a chain, to the volume's live slot if it is there.
 fn walk_chain(chain: &MetaChain, volume: VolId, grain: u32, label: u64, seen: Option<VolId>) -> Walk
-    ensures { (t : Tables) (rest : List Slot) → HasTidySlots t chain.now → walked volume.0 grain label (slots_in t chain.now ++ rest) (id_number seen) ≡ walked_on volume.0 grain label result rest }
+    ensures { (t : Tables) (rest : List Slot) → HasTidySlots t chain.now →
+        walked volume.0 grain label (slots_in t chain.now ++ rest) (id_number seen) ≡
+        walked_on volume.0 grain label result rest }
 {
     let of_chain = chain.label == label;
     let mut seen = seen;
@@ -93,7 +83,8 @@ fn walk_chain(chain: &MetaChain, volume: VolId, grain: u32, label: u64, seen: Op
 
 /// Walks along all chains, to the volume's live slot.
 fn walk_all(chains: &[MetaChain], volume: VolId, grain: u32, label: u64) -> Option<VolId>
-    ensures { (t : Tables) → All (HasTidySlots t) chains.now → id_number result ≡ walked volume.0 grain label (flat_map (slots_in t) chains.now) None }
+    ensures { (t : Tables) → All (HasTidySlots t) chains.now →
+        id_number result ≡ walked volume.0 grain label (flat_map (slots_in t) chains.now) None }
 {
     let mut seen = None;
     for chain in chains {
@@ -107,7 +98,8 @@ fn walk_all(chains: &[MetaChain], volume: VolId, grain: u32, label: u64) -> Opti
 
 /// The volume of the slot that holds the volume's grain: the last one, up to the volume's live slot, of its chain that does.
 pub(crate) fn holder_volume(chains: &[MetaChain], volume: VolId, grain: u32) -> Option<VolId>
-    ensures { (t : Tables) → All (HasTidySlots t) chains.now → id_number result ≡ holder_volume volume.0 grain (flat_map (slots_in t) chains.now) }
+    ensures { (t : Tables) → All (HasTidySlots t) chains.now →
+        id_number result ≡ holder_volume volume.0 grain (flat_map (slots_in t) chains.now) }
 {
     match chain_with(chains, volume) {
         Some(label) => walk_all(chains, volume, grain, label),

@@ -1,9 +1,9 @@
 //! The disks of a lane.
 
 ghost use Rattle.std.specs.Prelude.{◌≡◌, ◌<◌, length, is_err, find, position, option_copied, OnOk, OnErr, Some};
-ghost use Rattle.fc_kept.specs.Disks.{is_of};
+ghost use Rattle.fc_kept.specs.Disks.{is_of, is_free};
 ghost use Rattle.fc_recovered.specs.Answering.{HasDiskGrain, ReadsDisk};
-ghost use Rattle.fc_recovered.specs.Readying.{is_new_of, is_diskless, given, of_size, readied};
+ghost use Rattle.fc_recovered.specs.Readying.{is_diskless, given, of_size, readied};
 
 use crate::lane_size::LaneSize;
 use crate::named_disk::NamedDisk;
@@ -66,10 +66,10 @@ impl<D: Mdisk> LaneDisks<D> {
     }
 
     /// The place of the first disk that is for new volumes of this kind.
-    fn place_of_new(&self, kind: DiskKind) -> Option<usize>
-        ensures { result ≡ position (is_new_of kind) self.now }
+    fn place_of_free(&self, kind: DiskKind) -> Option<usize>
+        ensures { result ≡ position (is_free kind) self.now }
     {
-        self.disks.iter().position(|disk| disk.is_new_of(kind))
+        self.disks.iter().position(|disk| disk.is_free(kind))
     }
 
     /// Gives a volume the first disk of its kind that is for new volumes. Without one, or refused, nothing changes.
@@ -78,7 +78,7 @@ impl<D: Mdisk> LaneDisks<D> {
         ensures ok { OnOk result (self.new ≡ given (of_size lane.now) self.old (Some volume.now)) }
         ensures err { OnErr result (self.new ≡ self.old) }
     {
-        match self.place_of_new(volume.kind) {
+        match self.place_of_free(volume.kind) {
             Some(at) => {
                 self.disks[at].give(volume.id, lane.grains_of(volume.grains), lane.grain.bytes())
             }

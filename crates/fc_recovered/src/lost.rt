@@ -6,7 +6,6 @@ ghost use Rattle.fc_kept.specs.Images.{lost_in};
 ghost use Rattle.fc_kept.specs.Kept.{is_lost_in};
 ghost use Rattle.fc_kept.specs.Sound.{HasTidyLost};
 
-use crate::chains::has_bit;
 use fc_base::ids::VolId;
 use fc_image::MetaLost;
 
@@ -16,7 +15,7 @@ pub(crate) fn is_lost(rows: &[MetaLost], volume: VolId, grain: u32) -> bool
 {
     for row in rows {
         if row.volume.0 == volume.0 {
-            return has_bit(&row.lost, grain);
+            return row.lost.has(grain);
         }
     }
     false

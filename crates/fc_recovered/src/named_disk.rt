@@ -1,9 +1,9 @@
 //! A disk with the volume that it was of.
 
-ghost use Rattle.std.specs.Prelude.{◌≡◌, ◌<◌, ◌==◌, Some, None, length, is_err, OnOk, OnErr};
-ghost use Rattle.fc_kept.specs.Disks.{is_of};
-ghost use Rattle.fc_mdisk.specs.Disk.{AfterRead, formatted, grain_at};
-ghost use Rattle.fc_recovered.specs.Readying.{is_kind_of, is_new_of};
+ghost use Rattle.std.specs.Prelude.{◌≡◌, ◌==◌, Some, None, length, is_err, OnOk, OnErr};
+ghost use Rattle.fc_kept.specs.Disks.{is_of, is_kind, is_free};
+ghost use Rattle.fc_mdisk.specs.Disk.{AfterRead, formatted};
+ghost use Rattle.fc_recovered.specs.Answering.{HasGrain};
 
 use fc_base::disk::DiskKind;
 use fc_base::ids::VolId;
@@ -27,8 +27,8 @@ impl<D: Mdisk> Model for NamedDisk<D> {
 }
 
 /// Whether the kinds are the same.
-fn is_kind_of(kind: DiskKind, other: DiskKind) -> bool
-    ensures { result ≡ is_kind_of kind other }
+fn is_kind(kind: DiskKind, other: DiskKind) -> bool
+    ensures { result ≡ is_kind kind other }
 {
     match kind {
         DiskKind::Flat => matches!(other, DiskKind::Flat),
@@ -69,10 +69,10 @@ impl<D: Mdisk> NamedDisk<D> {
     }
 
     /// Whether it is for new volumes of this kind.
-    pub(crate) fn is_new_of(&self, kind: DiskKind) -> bool
-        ensures { result ≡ is_new_of kind self.now }
+    pub(crate) fn is_free(&self, kind: DiskKind) -> bool
+        ensures { result ≡ is_free kind self.now }
     {
-        self.volume.is_none() && is_kind_of(kind, self.disk.kind())
+        self.volume.is_none() && is_kind(kind, self.disk.kind())
     }
 
     /// Becomes this volume's, with so many grains of zeros. Refused, it is as it was.
@@ -87,8 +87,7 @@ impl<D: Mdisk> NamedDisk<D> {
 
     /// Reads a grain (`Mdisk::read`).
     pub(crate) fn read(&mut self, place: u32, out: &mut [u8]) -> Result<(), Failed>
-        requires in_range { place < length self.old.disk.grains }
-        requires whole { length out.old ≡ length (grain_at self.old.disk.grains place) }
+        requires { HasGrain self.old.disk place (length out.old) }
         ensures disk { AfterRead self.old.disk place (is_err result) out.new self.new.disk }
         ensures others { self.new ≡ record self.old { disk = self.new.disk } }
     {

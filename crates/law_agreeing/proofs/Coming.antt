@@ -1,5 +1,5 @@
 -- What a stop finds behind actions that were done.
-use Rattle.std.proofs.Common.{◌≡◌, ◌⊎◌, Option, Some, None, List, [], ◌∷◌, ◌++◌, inl, inr, refl, subst}
+use Rattle.std.proofs.Common.{Option, Some, None, List, [], ◌∷◌, ◌++◌, inl, inr, refl, subst}
 use Rattle.fc_base.specs.Sheet.{Sheet}
 use Rattle.fc_base.specs.declared.request.Request.{Request}
 use Rattle.fc_base.specs.declared.size.GrainSize.{GrainSize}

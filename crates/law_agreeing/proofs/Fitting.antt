@@ -1,15 +1,12 @@
 -- Disks that agree with others fit what those fit.
-use Rattle.std.proofs.Common.{◌≡◌, ℕ, ◌<◌, Bool, true, false, not, ◌&&◌, is_some, IsSome, Option, Some, None, List, [], ◌∷◌, length, Contains, refl, sym, ap, subst, ◌∙◌, arith}
+use Rattle.std.proofs.Common.{◌≡◌, ◌<◌, IsSome, Option, Some, None, List, [], ◌∷◌, length, Contains, refl, subst, ◌∙◌, arith}
 use Rattle.std.specs.List.{filter}
 use Rattle.fc_base.specs.Tables.{Tables}
-use Rattle.fc_base.specs.declared.disk.DiskKind.{DiskKind}
-use Rattle.fc_base.specs.declared.disk.DiskKind.TheVariants.{Flat, Thin}
-use Rattle.fc_base.specs.declared.ids.VolId.{VolId}
 use Rattle.fc_decided.proofs.Lists.{filter_in, none_in}
 use Rattle.fc_rules.specs.LaneTold.{LaneOf}
-use Rattle.fc_kept.specs.Disks.{NamedDisk, disk_of, FitDisks}
+use Rattle.fc_kept.specs.Disks.{NamedDisk, disk_of, FitDisks, is_free}
 use Rattle.fc_kept.specs.Kept.{Kept}
-use Rattle.law_crash.specs.Leaving.{is_free, is_kind}
+use Rattle.fc_kept.proofs.Free.{free_now}
 use Rattle.law_crash.proofs.Fitting.{free_one}
 use Rattle.law_agreeing.specs.Agreeing.{SameSize, Agree}
 
@@ -46,14 +43,6 @@ some_now (Some x) (Some y) s some = refl
 
 -- ---- a free one
 
-own_kind : (kind : DiskKind) → is_kind kind kind ≡ true
-own_kind Flat = refl
-own_kind Thin = refl
-
-is_free_now : (kind : DiskKind) (d : NamedDisk) → d.volume ≡ None → d.disk.kind ≡ kind → is_free kind d ≡ true
-is_free_now kind d none same =
-    ap (λ (o : Option VolId). not (is_some o) && is_kind kind d.disk.kind) none ∙ (ap (is_kind kind) same ∙ own_kind kind)
-
 some_in : (xs : List NamedDisk) (x : NamedDisk) → Contains xs x → 0 < length xs
 some_in [] x c = absurd (none_in x c)
 some_in (y ∷ xs) x c = omega arith
@@ -70,7 +59,7 @@ fits_agreeing l k old new t a f =
       unnamed = λ v c e.
           let p = f.unnamed v c (none_then (disk_of old v.id.0) (disk_of new v.id.0) (a.named v.id.0) e) in
           let was : 0 < length (filter (is_free v.kind) old) =
-          some_in (filter (is_free v.kind) old) p.0 (filter_in (is_free v.kind) old p.0 p.1 (is_free_now v.kind p.0 p.2 p.3)) in
+          some_in (filter (is_free v.kind) old) p.0 (filter_in (is_free v.kind) old p.0 p.1 (free_now v.kind p.0 p.2 p.3)) in
           let same : length (filter (is_free v.kind) new) ≡ length (filter (is_free v.kind) old) = a.free v.kind in
           free_one v.kind new (omega (arith, was, same));
       one = λ v w vc wc e q.

@@ -6,7 +6,6 @@ use Rattle.fc_entry.specs.Picture.{Bytes}
 use Rattle.fc_legal.specs.Whole.{Whole, lanes}
 use Rattle.fc_kept.specs.Disks.{NamedDisk}
 use Rattle.fc_kept.specs.Images.{size_in}
-use Rattle.law_crash.specs.Doing.{IsWritten}
 use Rattle.law_crash.specs.Leaving.{AreFit, HaveTheirDisks}
 use Rattle.law_crash.proofs.Writing.{Disked, can_be_written, disked_still, has_place}
 use Rattle.law_agreeing.specs.Law.{IsPut}

@@ -11,14 +11,14 @@ use Rattle.fc_legal.specs.Whole.{Whole, lanes, lane_at, lane_of_grain, part_of_s
 use Rattle.fc_parts.proofs.Numbers.{number_of_place}
 use Rattle.fc_pictures.proofs.Staying.{stored_shows}
 use Rattle.fc_rules.specs.LaneTold.{LaneOf, place_of, number_at}
-use Rattle.fc_kept.specs.Disks.{NamedDisk, disk_of, on_disk, stored_on}
+use Rattle.fc_kept.specs.Disks.{NamedDisk, disk_of, on_disk, stored_on, is_free}
 use Rattle.fc_kept.specs.Kept.{Kept, is_lost_in}
 use Rattle.fc_kept.specs.OneGrain.{Another, with_another}
 use Rattle.fc_kept.specs.Recoverable.{Recoverable, Says, ShowsAll, disks_at}
 use Rattle.law_crash.specs.Doing.{with_disks}
-use Rattle.law_crash.specs.Leaving.{HaveTheirDisks, AreUnnamed, is_free}
+use Rattle.law_crash.specs.Leaving.{HaveTheirDisks, AreUnnamed}
 use Rattle.law_crash.specs.Points.{Point, StandsFor, stored_by, on_disks}
-use Rattle.law_agreeing.specs.Agreeing.{Agree, AllAgree, lane_over}
+use Rattle.law_agreeing.specs.Agreeing.{Agree, AllAgree}
 use Rattle.law_agreeing.proofs.Fitting.{fits_agreeing, none_now, some_now}
 
 -- ---- what is stored

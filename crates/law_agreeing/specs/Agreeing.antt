@@ -3,10 +3,9 @@ use Rattle.std.specs.Prelude.{◌≡◌, ℕ, ◌<◌, false, List, length, filt
 use Rattle.fc_base.specs.declared.disk.DiskKind.{DiskKind}
 use Rattle.fc_base.specs.declared.size.GrainSize.{GrainSize}
 use Rattle.fc_rules.specs.LaneTold.{LaneOf, number_at}
-use Rattle.fc_kept.specs.Disks.{NamedDisk, disk_of, on_disk}
+use Rattle.fc_kept.specs.Disks.{NamedDisk, disk_of, on_disk, is_free}
 use Rattle.fc_kept.specs.Kept.{Kept, is_lost_in}
 use Rattle.fc_kept.specs.Recoverable.{disks_at}
-use Rattle.law_crash.specs.Leaving.{is_free}
 
 -- A volume's disk is there in both or in neither, of one kind and with as many grains.
 abbrev pub SameSize : Option NamedDisk → Option NamedDisk → Type 0

@@ -12,11 +12,10 @@ use Rattle.fc_decided.proofs.Lists.{any_there, find_none, find_one, in_cases, ma
 use Rattle.fc_entry.specs.Picture.{Content, Bytes, Lost, content_at}
 use Rattle.fc_grains.specs.Grains.{GrainsState}
 use Rattle.fc_grains.specs.Volumes.{VolumeGrains, volume_of}
-use Rattle.fc_kept.specs.Disks.{NamedDisk, disk_of, is_of, on_disk}
+use Rattle.fc_kept.specs.Disks.{NamedDisk, disk_of, is_of, on_disk, is_free}
 use Rattle.fc_kept.specs.Kept.{Kept, is_lost_in}
 use Rattle.fc_mdisk.specs.Disk.{blank, grain_at}
 use Rattle.fc_rules.specs.LaneTold.{LaneOf, number_at}
-use Rattle.law_crash.specs.Leaving.{is_free}
 use Rattle.fc_held.specs.Held.{AreOnce, HasDisk, Matches, is_known}
 
 -- ---- the disks

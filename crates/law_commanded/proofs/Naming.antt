@@ -14,7 +14,7 @@ use Rattle.fc_books.specs.Sound.{AreSound}
 use Rattle.fc_entry.specs.Picture.{content_at}
 use Rattle.fc_grains.specs.Grains.{GrainsState}
 use Rattle.fc_grains.specs.Volumes.{VolumeGrains}
-use Rattle.fc_kept.specs.Disks.{NamedDisk, disk_of, on_disk}
+use Rattle.fc_kept.specs.Disks.{NamedDisk, disk_of, on_disk, is_free}
 use Rattle.fc_kept.specs.Kept.{Kept, is_lost_in}
 use Rattle.fc_kept.specs.Recoverable.{disks_at}
 use Rattle.fc_lane.specs.Lane.{LaneView}
@@ -22,7 +22,7 @@ use Rattle.fc_legal.specs.Whole.{Whole, lane_at, lane_of_grain, lanes, pool_at}
 use Rattle.fc_parts.proofs.Numbers.{grain_below}
 use Rattle.fc_rules.specs.LaneTold.{LaneOf, number_at, place_of}
 use Rattle.law_crash.proofs.Lost.{all_in_is}
-use Rattle.law_crash.specs.Leaving.{AreFit, HaveTheirDisks, is_free}
+use Rattle.law_crash.specs.Leaving.{AreFit, HaveTheirDisks}
 use Rattle.law_crash.specs.Points.{on_disks}
 use Rattle.law_crash.specs.Running.{StayAs}
 use Rattle.fc_held.specs.Held.{MatchAll, Matches, is_known}

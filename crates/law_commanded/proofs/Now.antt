@@ -17,7 +17,7 @@ use Rattle.fc_entry.specs.declared.entry.Entry.{Entry}
 use Rattle.fc_grains.specs.Grains.{GrainsState}
 use Rattle.fc_grains.specs.Volumes.{VolumeGrains, is_there, stored, volume_of}
 use Rattle.fc_imaging.specs.Imaging.{is_lost_at}
-use Rattle.fc_kept.specs.Disks.{NamedDisk, disk_of, on_disk, stored_on}
+use Rattle.fc_kept.specs.Disks.{NamedDisk, disk_of, on_disk, stored_on, is_kind}
 use Rattle.fc_kept.specs.Kept.{Kept, is_lost_in}
 use Rattle.fc_kept.specs.Marks.{LeastLeft}
 use Rattle.fc_kept.specs.Recoverable.{disks_at}
@@ -32,7 +32,6 @@ use Rattle.fc_stands.proofs.OneMore.{lane_still}
 use Rattle.fc_steps.specs.Standing.{VolumeKind, kind_of_told}
 use Rattle.law_agreeing.specs.Agreeing.{lane_over}
 use Rattle.law_crash.proofs.Lost.{all_in_is}
-use Rattle.law_crash.specs.Leaving.{is_kind}
 use Rattle.law_crash.specs.Points.{Point}
 use Rattle.fc_held.proofs.Stepping.{known_kind}
 use Rattle.fc_held.specs.Held.{HasDisk, MatchAll, Matches, is_known}

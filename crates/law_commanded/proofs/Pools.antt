@@ -27,8 +27,8 @@ use Rattle.fc_legal.specs.Whole.{Whole, all_followed, pool_at, single_lane, volu
 use Rattle.fc_parts.proofs.Told.{pools_of_all}
 use Rattle.fc_follow.specs.Following.{restarts}
 use Rattle.fc_rules.specs.LaneTold.{LaneVolume, volumes_event}
+use Rattle.fc_kept.specs.Disks.{is_kind}
 use Rattle.law_crash.proofs.Fitting.{settling_pools}
-use Rattle.law_crash.specs.Leaving.{is_kind}
 use Rattle.law_stands.proofs.Standing.{command_lawful}
 use Rattle.law_volumes.proofs.Steps.{settling_keeps}
 

@@ -37,6 +37,7 @@ use Rattle.fc_books.specs.Settling.{drops, finishes, settles_in, settling}
 use Rattle.fc_books.specs.Starting.{begins, gives_way, is_superseded, prepare, start, supersedes, triggers}
 use Rattle.fc_books.specs.Stopping.{leave_event, one_by_one, stop_dependents, stop_event, stop_group, stops, stops_in, stops_member, stops_with}
 use Rattle.fc_books.specs.Work.{changes_work, cleans, copies, work_events}
+use Rattle.law_crash.proofs.Resting.{Each, each_append}
 use Rattle.law_noted.specs.Records.{removed_by}
 
 -- ---- events that take no volume away
@@ -46,12 +47,7 @@ IsSparing (Remove volume) = ⊥
 IsSparing e = Unit {0}
 
 abbrev pub AreSparing : List LaneEvent → Type 0
-AreSparing [] = Unit {0}
-AreSparing (e ∷ es) = IsSparing e × AreSparing es
-
-append : (xs ys : List LaneEvent) → AreSparing xs → AreSparing ys → AreSparing (xs ++ ys)
-append [] ys first second = second
-append (x ∷ xs) ys first second = (first.0, append xs ys first.1 second)
+AreSparing es = Each IsSparing es
 
 pub none_removed : (es : List LaneEvent) → AreSparing es → removed_by es ≡ None
 none_removed [] spares = refl
@@ -76,10 +72,10 @@ Spares deed = AreSparing deed.events
 
 all_spare : {X : Type 0} (deed : X → Deed) (xs : List X) → ((x : X) → Spares (deed x)) → Spares (all_deeds deed xs)
 all_spare deed [] each = tt
-all_spare deed (x ∷ xs) each = append (deed x).events (all_deeds deed xs).events (each x) (all_spare deed xs each)
+all_spare deed (x ∷ xs) each = each_append IsSparing (deed x).events (all_deeds deed xs).events (each x) (all_spare deed xs each)
 
 both : (d e : Deed) → Spares d → Spares e → Spares (d then e)
-both d e first second = append d.events e.events first second
+both d e first second = each_append IsSparing d.events e.events first second
 
 either : (c : Bool) (d e : Deed) → Spares d → Spares e → Spares (cond c d e)
 either true d e first second = first
@@ -130,34 +126,34 @@ leave_spares Plain b m = plain_spares (is_needed b m) m.id
 leave_spares SplitOff b m = tt
 leave_spares Force b m = tt
 
-stops_in_spare : (state : MapState) (way : StopWay) (b : Books) (m : Mapping) → Spares (stops_in state way b m)
-stops_in_spare Copying way b m =
-    let next : Result MapState Refusal = next_state Copying (stop_event way) (is_whole b m) (is_needed b m) in
-    both (told (leave_event way b m ∷ [])) (leaves_by next b m then stop_dependents way b m) (leave_spares way b m, tt)
-    (both (leaves_by next b m) (stop_dependents way b m) (leaves_spare next b m) (dependents_spare way b m))
-stops_in_spare Stopping way b m =
-    let next : Result MapState Refusal = next_state Stopping (stop_event way) m.complete (is_needed b m) in
-    both (told (leave_event Force b m ∷ [])) (ends_by next m then stop_dependents Force b m) (tt, tt)
-    (both (ends_by next m) (stop_dependents Force b m) (ends_spare next m) (dependents_spare Force b m))
-stops_in_spare state way b m = ends_spare (next_state state (stop_event way) m.complete false) m
-
 stops_spare : (way : StopWay) (b : Books) (m : Mapping) → Spares (stops way b m)
 unfolding stops
-stops_spare way b m = stops_in_spare m.state way b m
+stops_spare way b m = by m.state
+  where
+    by : (state : MapState) → Spares (stops_in state way b m)
+    by Copying =
+        let next : Result MapState Refusal = next_state Copying (stop_event way) (is_whole b m) (is_needed b m) in
+        both (told (leave_event way b m ∷ [])) (leaves_by next b m then stop_dependents way b m) (leave_spares way b m, tt)
+        (both (leaves_by next b m) (stop_dependents way b m) (leaves_spare next b m) (dependents_spare way b m))
+    by Stopping =
+        let next : Result MapState Refusal = next_state Stopping (stop_event way) m.complete (is_needed b m) in
+        both (told (leave_event Force b m ∷ [])) (ends_by next m then stop_dependents Force b m) (tt, tt)
+        (both (ends_by next m) (stop_dependents Force b m) (ends_spare next m) (dependents_spare Force b m))
+    by state = ends_spare (next_state state (stop_event way) m.complete false) m
 
 member_spares : (way : StopWay) (b : Books) (found : Option Mapping) → Spares (stops_member way b found)
 member_spares way b None = tt
 member_spares way b (Some m) = either (acts_on way m.state) (stops way b m) nothing (stops_spare way b m) tt
 
-each_spares : (deed : Books → MapId → Deed) → ((b : Books) (id : MapId) → Spares (deed b id)) → (b : Books) (ids : List MapId) → Spares (one_by_one (λ m. []) deed b ids)
-each_spares deed each b [] = tt
-each_spares deed each b (id ∷ ids) =
-    let after : Books = after_deed (λ m. []) b (deed b id) in
-    both (deed b id) (one_by_one (λ m. []) deed after ids) (each b id) (each_spares deed each after ids)
+-- one mapping of a group after the other
+abbrev stops_named : StopWay → Books → MapId → Deed
+stops_named way b id = stops_member way b (mapping_with b.tables id)
 
-group_spares : (way : StopWay) (b : Books) (maps : List Mapping) → Spares (stop_group way b maps)
-group_spares way b maps =
-    each_spares (λ books id. stops_member way books (mapping_with books.tables id)) (λ books id. member_spares way books (mapping_with books.tables id)) b (map (λ (m : Mapping). m.id) maps)
+group_spares : (way : StopWay) (b : Books) (ids : List MapId) → Spares (one_by_one (λ m. []) (stops_named way) b ids)
+group_spares way b [] = tt
+group_spares way b (id ∷ ids) =
+    let after : Books = after_deed (λ m. []) b (stops_named way b id) in
+    both (stops_named way b id) (one_by_one (λ m. []) (stops_named way) after ids) (member_spares way b (mapping_with b.tables id)) (group_spares way after ids)
 
 -- starts
 supersedes_spare : (t : Tables) (maps : List Mapping) → Spares (supersedes t maps)
@@ -214,7 +210,7 @@ module _ (sets : ℕ → List Bool) (grain : GrainSize) (b : Books) where
   events_of deed = deed.events ++ work_events (after_deed sets b deed)
 
   never : {X : Type 0} (deed : Deed) (gone : VolId) → Spares deed → removed_by (events_of deed) ≡ Some gone → X
-  never deed gone spares e = absurd_by (events_of deed) gone (append deed.events (work_events (after_deed sets b deed)) spares (work_spares (after_deed sets b deed))) e
+  never deed gone spares e = absurd_by (events_of deed) gone (each_append IsSparing deed.events (work_events (after_deed sets b deed)) spares (work_spares (after_deed sets b deed))) e
 
   by_deed : (command : Command) (refusal : Option Refusal) (loop : Option (List VolId)) (gone : VolId) → Spares (done grain b command) → removed_by (answered sets grain b command refusal loop).events ≡ Some gone →
       IsRemoval b (answered sets grain b command refusal loop) gone
@@ -260,7 +256,7 @@ module _ (sets : ℕ → List Bool) (grain : GrainSize) (b : Books) where
   by_command (Startfcconsistgrp group prep restore) r loop gone e =
       by_deed (Startfcconsistgrp group prep restore) r loop gone (members_spare b.tables (group_named b.tables group) (start prep restore b.tables) (start_spares prep restore b.tables)) e
   by_command (Stopfcconsistgrp group way) r loop gone e =
-      by_deed (Stopfcconsistgrp group way) r loop gone (members_spare b.tables (group_named b.tables group) (stop_group way b) (group_spares way b)) e
+      by_deed (Stopfcconsistgrp group way) r loop gone (members_spare b.tables (group_named b.tables group) (stop_group way b) (λ maps. group_spares way b (map (λ (m : Mapping). m.id) maps))) e
   by_command (Rmfcconsistgrp group force) r loop gone e =
       by_deed (Rmfcconsistgrp group force) r loop gone (one_spares (group_named b.tables group) (λ (g : Group). remove_group b.tables g.id) (λ g. tt)) e
   by_command command r loop gone e = by_deed command r loop gone tt e

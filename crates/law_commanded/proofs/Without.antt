@@ -1,5 +1,5 @@
 -- The image without a volume that is about to go.
-use Rattle.std.proofs.Common.{◌≡◌, ℕ, suc, ◌*◌, ◌<◌, ◌==◌, Bool, true, false, cond, not, Option, Some, None, List, [], ◌∷◌, length, map, get_or, All, Contains, inl, inr, refl, sym, ap, subst, ◌∙◌, arith}
+use Rattle.std.proofs.Common.{◌≡◌, ℕ, suc, ◌*◌, ◌<◌, ◌==◌, Bool, true, false, cond, not, Option, Some, List, [], ◌∷◌, map, All, Contains, inl, inr, refl, sym, ap, subst, ◌∙◌, arith}
 use Rattle.std.specs.List.{filter, flat_map, fold, remove}
 use Rattle.std.proofs.lemmas.Bool.{eq-eqb, ne_eqb, cases_eq}
 use Rattle.fc_base.specs.Sheet.{Sheet, Slot, slot_at}
@@ -14,13 +14,11 @@ use Rattle.fc_base.specs.declared.ids.VolId.{VolId}
 use Rattle.fc_base.specs.declared.size.GrainSize.{GrainSize}
 use Rattle.fc_base.specs.declared.volume.Change.{Change}
 use Rattle.fc_base.specs.declared.volume.Change.TheVariants.{RemoveVolume}
-use Rattle.fc_base.specs.declared.volume.Mapping.{Mapping}
 use Rattle.fc_base.specs.declared.volume.Volume.{Volume}
 use Rattle.fc_books.specs.After.{after_all, after_event, after_table_change}
 use Rattle.fc_books.specs.Books.{Books}
 use Rattle.fc_books.specs.Deciding.{settle}
-use Rattle.fc_books.specs.Sound.{AreSound}
-use Rattle.fc_books.specs.Work.{changes_work, cleans, copies, work_events}
+use Rattle.fc_books.specs.Work.{work_events}
 use Rattle.fc_changed.specs.Row.{Row}
 use Rattle.fc_decided.proofs.Lists.{filter_from, filter_in}
 use Rattle.fc_entry.specs.declared.entry.Entry.{Entry}
@@ -35,13 +33,11 @@ use Rattle.fc_kept.specs.Sound.{HasTidyLost, IsSoundImage, IsSoundKept}
 use Rattle.fc_kept.proofs.Said.{said}
 use Rattle.fc_kept.proofs.Tidy.{image_sound}
 use Rattle.fc_lane.specs.Lane.{LaneView}
-use Rattle.fc_lanes.specs.AllLanes.{EachLane}
 use Rattle.fc_legal.specs.Steps.{after_settling, decided_on, rows_after}
 use Rattle.fc_legal.specs.Lawful.{FitAsOne}
-use Rattle.fc_legal.specs.Whole.{Whole, all_followed, lanes}
+use Rattle.fc_legal.specs.Whole.{Whole, all_followed}
 use Rattle.fc_sheets.proofs.Finding.{live_place_at}
-use Rattle.law_crash.proofs.Lost.{all_in_is}
-use Rattle.law_crash.proofs.Resting.{AreStill}
+use Rattle.law_crash.proofs.Resting.{AreStill, work_still}
 use Rattle.law_crash.specs.Points.{Point}
 use Rattle.law_stands.proofs.Standing.{command_lawful}
 use Rattle.law_commanded.specs.Lanes.{HaveLanes, NoneCame}
@@ -70,14 +66,6 @@ turned_round a b =
     ]
 
 -- ---- work changes neither tables nor chains
-
-works_still : (b : Books) (ms : List Mapping) → AreStill (map (λ m. Work m.id (copies b m) (cleans b m)) ms)
-works_still b [] = tt
-works_still b (m ∷ ms) = (tt, works_still b ms)
-
-work_still : (b : Books) → AreStill (work_events b)
-unfolding work_events
-work_still b = works_still b (filter (changes_work b) b.tables.mappings)
 
 record SameBooks (x y : Books) : Type 0 where
   tables : x.tables ≡ y.tables

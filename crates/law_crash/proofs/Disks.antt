@@ -39,6 +39,18 @@ was_of (x ∷ xs) (y ∷ ys) v d s e =
           (r.0, find_by v x xs false (sym (same_name v x y s.0) ∙ f) ∙ r.1, r.2)
     ]
 
+-- and the other way round
+turned : (xs ys : List NamedDisk) → SameDisks xs ys → SameDisks ys xs
+turned [] [] s = tt
+turned [] (y ∷ ys) s = absurd s
+turned (x ∷ xs) [] s = absurd s
+turned (x ∷ xs) (y ∷ ys) s = (record { volume = sym s.0.volume; kind = sym s.0.kind; grains = sym s.0.grains }, turned xs ys s.1)
+
+pub now_of : (xs ys : List NamedDisk) (v : ℕ) (d : NamedDisk) → SameDisks xs ys → disk_of xs v ≡ Some d → (new : NamedDisk) × (disk_of ys v ≡ Some new) × SameDisk d new
+now_of xs ys v d s e =
+    let r = was_of ys xs v d (turned xs ys s) e in
+    (r.0, r.1, record { volume = sym r.2.volume; kind = sym r.2.kind; grains = sym r.2.grains })
+
 was_none : (xs ys : List NamedDisk) (v : ℕ) → SameDisks xs ys → disk_of ys v ≡ None → disk_of xs v ≡ None
 was_none [] [] v s e = refl
 was_none [] (y ∷ ys) v s e = absurd s

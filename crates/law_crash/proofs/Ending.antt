@@ -38,7 +38,7 @@ use Rattle.law_crash.specs.Points.{Point, StandsFor}
 use Rattle.law_crash.specs.Doing.{number_of, actions_of_steps, marks_by_move, chains_behind, IsWritten, noted, with_kept, with_disks, Did, Tears, Stopped}
 use Rattle.law_crash.specs.Law.{Begins}
 use Rattle.law_crash.proofs.Answering.{told_with, least_with}
-use Rattle.law_crash.proofs.Failing.{torn_of, StandsTorn, write_torn}
+use Rattle.law_crash.proofs.Failing.{torn_of, write_torn}
 use Rattle.law_crash.proofs.Lawful.{WriteOf, FillOf, write_of, live_at, moves_in, own_in, chains_in, moves_given, can_write_at, own_is, Ready, ready_folded, ready_marked, ready_unmarked, copy_of, clean_of, fills_in, fills_given}
 use Rattle.law_crash.proofs.Making.{spot_in, steps_in, chains_after, told_moves, Moves, At, at_folded, did_moves, at_first}
 use Rattle.law_crash.proofs.Noting.{with_all, with_sheet, written_sheet}
@@ -87,41 +87,41 @@ own_untorn grain w least part t p ready =
     subst (λ (x : List Row). StandsFor grain (told_with grain w None (AllMoves grain w part t) None) x p) least_is
     (subst (λ (ms : List Move). StandsFor grain (with_sheet w (fold (sheet_move (single_lane grain)) w.books.sheet ms)) (after_note least (Wrote part.volume.0 g)) p) (moves_all grain w part t) ready.stands)
 
+-- what is told behind it: the torn grain, by its place in all of them
+abbrev torn_whole : GrainSize → Whole → WritePart → Side → (ℕ → List Row) → ℕ → List Move → Whole
+torn_whole grain w part side rows y ms =
+    with_all w (sheet_torn part.volume.0 y side (fold (sheet_move (single_lane grain)) w.books.sheet ms))
+    (changed_at record { 0 = part.volume.0 } (tear_volume side (grain_of_block grain part.block)) w.picture) (rows y)
+
+torn_told : (grain : GrainSize) (w : Whole) (part : WritePart) (t : ℕ) (side : Side) (rows : ℕ → List Row) (least : List Row) (q : Point) →
+    StandsFor grain (torn_whole grain w part side rows (grain_of_block grain part.block) (map (move_in (spot_in grain w (Write part))) (moves_in grain w part t))) least q →
+    StandsFor grain (torn_whole grain w part side rows (place_of (single_lane grain) (grain_of_block grain part.block)) (moves_of (AllMoves grain w part t))) least q
+torn_told grain w part t side rows least q here =
+    let same : grain_of_block grain part.block ≡ place_of (single_lane grain) (grain_of_block grain part.block) = sym (all_place grain (grain_of_block grain part.block)) in
+    subst (λ (z : Whole). StandsFor grain z least q) (λ i. torn_whole grain w part side rows (same i) (moves_all grain w part t i)) here
+
 -- its grain was torn
 own_tears : (grain : GrainSize) (w : Whole) (least : List Row) (part : WritePart) (t : ℕ) (p : Point) (side : Side) (content : Content) (disks : List (List NamedDisk)) →
     CanWriteAt (chains_in grain w part t) (grain_of_block grain part.block) t part.volume.0 → LosesSide (chains_in grain w part t).slots (grain_of_block grain part.block) t side →
     grain_of_block grain part.block < size_in w.books.tables part.volume → Ready grain w least part t p → IsWritten grain w part.volume.0 (grain_of_block grain part.block) content p.disks disks →
     Goal grain w least (Write part) (AllMoves grain w part t) (Some (torn_at part.volume.0 (grain_of_block grain part.block) side)) (noted (torn_of part.volume.0 (grain_of_block grain part.block) side) (with_disks disks p))
 own_tears grain w least part t p Now content disks can loses room ready x =
-    let l = single_lane grain in
     let v : ℕ = part.volume.0 in
     let g : ℕ = grain_of_block grain part.block in
-    let same : g ≡ place_of l g = sym (all_place grain g) in
-    let q : Point = noted (torn_of v g Now) (with_disks disks p) in
     let least' : List Row = least_with grain least (Some part) (Some (torn_at v g Now)) in
-    let marked : AreMarked (after_note p.kept.rows (Wrote v g)) (after_note w.rows (Wrote v g)) least' =
-    subst (λ (y : ℕ). AreMarked (after_note p.kept.rows (Wrote v g)) (after_note w.rows (Wrote v g)) (after_note (after_note least (Wrote v y)) (Wrote v (place_of l g)))) same
-    (mark_law.asked l (after_note p.kept.rows (Wrote v g)) (after_note w.rows (Wrote v g)) (after_note least (Wrote v g)) (Some (Write part)) ready.behind) in
-    let here : StandsTorn grain (with_sheet w (chains_in grain w part t)) (after_note w.rows (Wrote v g)) least' p disks g Now v =
-    write_torn grain (with_sheet w (chains_in grain w part t)) (after_note w.rows (Wrote v g)) (after_note least (Wrote v g)) least' p disks g t v Now content ready.stands can loses room (written_sheet grain w (chains_in grain w part t) v g content p.disks disks x) marked in
-    let left : ℕ → List Move → Whole = λ (y : ℕ) (ms : List Move).
-    with_all w (sheet_torn v y Now (fold (sheet_move l) w.books.sheet ms)) (changed_at record { 0 = v } (tear_volume Now g) w.picture) (after_note w.rows (Wrote v y)) in
-    let told : left g (map (move_in (spot_in grain w (Write part))) (moves_in grain w part t)) ≡ left (place_of l g) (moves_of (AllMoves grain w part t)) = λ i. left (same i) (moves_all grain w part t i) in
-    subst (λ (z : Whole). StandsFor grain z least' q) told here
+    let rows : List Row = after_note w.rows (Wrote v g) in
+    let marked : AreMarked (after_note p.kept.rows (Wrote v g)) rows least' =
+    subst (λ (y : ℕ). AreMarked (after_note p.kept.rows (Wrote v g)) rows (after_note (after_note least (Wrote v y)) (Wrote v (place_of (single_lane grain) g)))) (sym (all_place grain g))
+    (mark_law.asked (single_lane grain) (after_note p.kept.rows (Wrote v g)) rows (after_note least (Wrote v g)) (Some (Write part)) ready.behind) in
+    torn_told grain w part t Now (λ y. after_note w.rows (Wrote v y)) least' (noted (torn_of v g Now) (with_disks disks p))
+    (write_torn grain (with_sheet w (chains_in grain w part t)) rows (after_note least (Wrote v g)) least' p disks g t v Now content ready.stands can loses room (written_sheet grain w (chains_in grain w part t) v g content p.disks disks x) marked)
 own_tears grain w least part t p Under content disks can loses room ready x =
-    let l = single_lane grain in
     let v : ℕ = part.volume.0 in
     let g : ℕ = grain_of_block grain part.block in
-    let same : g ≡ place_of l g = sym (all_place grain g) in
-    let q : Point = noted (torn_of v g Under) (with_disks disks p) in
     let least' : List Row = least_with grain least (Some part) (Some (torn_at v g Under)) in
-    let marked : AreMarked p.kept.rows w.rows least' = subst (λ (y : ℕ). AreMarked p.kept.rows w.rows (after_note least (Wrote v y))) same ready.stands.says.rows in
-    let here : StandsTorn grain (with_sheet w (chains_in grain w part t)) w.rows least' p disks g Under v =
-    write_torn grain (with_sheet w (chains_in grain w part t)) w.rows (after_note least (Wrote v g)) least' p disks g t v Under content ready.stands can loses room (written_sheet grain w (chains_in grain w part t) v g content p.disks disks x) marked in
-    let left : ℕ → List Move → Whole = λ (y : ℕ) (ms : List Move).
-    with_all w (sheet_torn v y Under (fold (sheet_move l) w.books.sheet ms)) (changed_at record { 0 = v } (tear_volume Under g) w.picture) w.rows in
-    let told : left g (map (move_in (spot_in grain w (Write part))) (moves_in grain w part t)) ≡ left (place_of l g) (moves_of (AllMoves grain w part t)) = λ i. left (same i) (moves_all grain w part t i) in
-    subst (λ (z : Whole). StandsFor grain z least' q) told here
+    let marked : AreMarked p.kept.rows w.rows least' = subst (λ (y : ℕ). AreMarked p.kept.rows w.rows (after_note least (Wrote v y))) (sym (all_place grain g)) ready.stands.says.rows in
+    torn_told grain w part t Under (λ y. w.rows) least' (noted (torn_of v g Under) (with_disks disks p))
+    (write_torn grain (with_sheet w (chains_in grain w part t)) w.rows (after_note least (Wrote v g)) least' p disks g t v Under content ready.stands can loses room (written_sheet grain w (chains_in grain w part t) v g content p.disks disks x) marked)
 
 -- by what it tore
 own_stopped : (grain : GrainSize) (w : Whole) (least : List Row) (part : WritePart) (t : ℕ) (torn : Option Torn) (p q : Point) → AreSound w.books → IsInside grain w.books.tables part.volume part.block part.count →

@@ -1,26 +1,37 @@
 -- The definitions on closed examples: the write to A of `fc_kept`'s examples, which first moves a grain to B.
-use Rattle.std.proofs.Common.{◌≡◌, ◌≢◌, ℕ, zero, suc, ◌%◌, ◌/◌, true, false, cond, ◌==◌, Option, Some, None, List, [], ◌∷◌, refl, sym, ap, ◌∙◌, arith, ◌⊎◌, inl, inr}
+use Rattle.std.proofs.Common.{◌≡◌, ◌≢◌, ℕ, zero, suc, ◌%◌, ◌/◌, true, false, cond, ◌==◌, Option, Some, None, List, [], ◌∷◌, codes, refl, sym, ap, ◌∙◌, arith, ◌⊎◌, inl, inr}
 use Rattle.std.specs.List.{AllZip}
 use Rattle.std.proofs.lemmas.Bool.{ne_eqb}
-use Rattle.fc_base.specs.Sheet.{slot_at}
+use Rattle.fc_base.specs.Column.{last_below, first_below, holder, first_reader, places_by_birth, old_slots}
+use Rattle.fc_base.specs.Moves.{is_in_place, asks, next_behind, write_asks, list_with_asked, list_all_with_asked, write_moves, taken, moved, after_moves}
+use Rattle.fc_base.specs.Sheet.{slot_at, live_place}
+use Rattle.fc_base.specs.declared.request.Place.TheVariants.{Lane}
+use Rattle.fc_base.specs.declared.request.Reply.TheVariants.{DiskFault}
 use Rattle.fc_base.specs.declared.request.Request.TheVariants.{Write}
+use Rattle.fc_base.specs.declared.request.Side.TheVariants.{Under}
+use Rattle.fc_base.specs.declared.request.Torn.{Torn}
 use Rattle.fc_base.specs.declared.size.GrainSize.TheVariants.{K64}
-use Rattle.fc_books.proofs.Examples.{vol}
+use Rattle.fc_books.proofs.Examples.{vol, volume}
 use Rattle.fc_changed.specs.Notes.{has}
 use Rattle.fc_changed.specs.Row.{Row}
-use Rattle.fc_entry.specs.Picture.{Content, Bytes}
+use Rattle.fc_decided.proofs.Lists.{first_in}
+use Rattle.fc_entry.specs.Picture.{Content, Bytes, Lost}
+use Rattle.fc_entry.specs.declared.entry.Entry.{Entry}
 use Rattle.fc_image.specs.declared.record.MetaRecord.{MetaRecord}
-use Rattle.fc_image.specs.declared.record.MetaRecord.TheVariants.{Pair, Written, Changing}
+use Rattle.fc_image.specs.declared.record.MetaRecord.TheVariants.{Pair, Written, Changing, Torn as TornRecord}
 use Rattle.fc_kept.specs.Actions.{Action, Action.Data, Action.Note, Action.Fold}
-use Rattle.fc_legal.specs.Whole.{lane_at}
+use Rattle.fc_legal.specs.Steps.{IsInside, Step, after_access}
+use Rattle.fc_legal.specs.Whole.{lane_at, single_lane}
 use Rattle.fc_kept.specs.Disks.{NamedDisk, disk_of, on_disk}
 use Rattle.fc_kept.specs.Kept.{Kept, sheet_kept}
+use Rattle.fc_kept.specs.Marks.{least_entry}
 use Rattle.fc_kept.specs.OneGrain.{Another}
 use Rattle.fc_kept.specs.Recoverable.{disks_at}
-use Rattle.fc_kept.proofs.Examples.{grain_no, slot_id, started, copied, ones, nulls, before, part, move_step, own_step, disk_with}
+use Rattle.fc_kept.proofs.Examples.{grain_no, slot_id, started, copied, ones, nulls, plain, before, part, move_step, own_step, its_steps, disk_with}
 use Rattle.law_crash.specs.Costs.{Sizes, calls_of_actions, calls_of_history, used_behind_all}
 use Rattle.law_crash.specs.Points.{Point, on_disks, stored_by}
 use Rattle.law_crash.specs.Doing.{number_of, actions_of_steps, content_of, SameDisk, StepWrites, folded, noted, with_kept, with_disks, Finds}
+use Rattle.law_crash.specs.Running.{Does, Does.stopped, Stops, Stops.done}
 
 abbrev pair : MetaRecord
 pair = Pair (slot_id 2) (vol 1) (grain_no 0) false false
@@ -199,3 +210,78 @@ record_alone f =
             | inr x ↦ let e : nulls ≡ ones = ap (λ (d : List (List NamedDisk)). on_disks K64 before d 1 0) x.4.1 ∙ (x.1.stored.elsewhere 1 0 (inl (λ q. cc)) ∙ w.stored.here) in cc
           ]
         ]
+
+-- ---- a stop behind the record of what a failed write tore
+
+-- the move's write failed: B's grain has any bytes where nobody reads it
+abbrev torn : Torn
+torn = record { volume = vol 1; grain = grain_no 0; side = Under }
+
+abbrev behind_the_torn : Point
+behind_the_torn = noted (TornRecord (vol 1) (grain_no 0) Under) (with_disks (holding 9) first)
+
+its_grain_is_lost : stored_by K64 before behind_the_torn 1 0 ≡ Lost
+its_grain_is_lost = refl
+
+-- and the write answers a disk fault
+abbrev failed : Entry
+failed =
+    record {
+      number = 5;
+      actor = 0;
+      place = Lane 0;
+      request = Write part;
+      reply = DiskFault;
+      moves = [];
+      effects = [];
+      torn = Some torn;
+      faults_before = 0;
+      faults_after = 1;
+      calls = 2;
+    }
+
+part_is_inside : IsInside K64 before.books.tables (vol 0) 0 1
+part_is_inside =
+    record { of = volume 0 (codes "A") 2; there = first_in (volume 0 (codes "A") 2) (volume 1 (codes "B") 2 ∷ []); id_is = refl; some = omega arith; in_one = omega arith; inside = omega arith }
+
+it_is_right : Step K64 before failed (after_access K64 before 0 failed)
+unfolding live_place first_below last_below holder first_reader places_by_birth old_slots is_in_place asks next_behind write_asks list_with_asked list_all_with_asked write_moves taken moved after_moves
+it_is_right =
+    record {
+      number = refl;
+      right = (
+        part_is_inside,
+        record {
+          place = refl;
+          faults_before = refl;
+          faults_kept = omega arith;
+          no_effects = refl;
+          answers = (
+            refl,
+            record {
+              step = move_step;
+              extra = 2;
+              stopped = record { before = []; after = own_step ∷ []; steps_are = refl; moves = refl; calls = refl; within = omega arith };
+              called = omega arith;
+              torn = refl;
+              risen = inl (omega arith);
+            },
+          );
+          next_is = refl;
+        },
+      );
+    }
+
+it_does : Does K64 before [] first failed (after_access K64 before 0 failed) (least_entry (single_lane K64) [] failed) behind_the_torn
+it_does =
+    stopped 0 (Write part) [] (own_step ∷ []) move_step (Some torn) behind_the_torn refl part_is_inside its_steps
+    record { begun = first; marked = first; did = refl; marks = refl; tears = (refl, omega arith, nines, holding 9, writes 9, started, inl refl, refl) }
+    record { request_is = refl; written = refl; moves = refl; torn_is = refl; no_effects = refl }
+
+-- a stop behind that record, before the answer, finds what the entry leads to
+behind_its_record : Stops K64 before [] first (Write part) None behind_the_torn
+behind_its_record = done failed (after_access K64 before 0 failed) (least_entry (single_lane K64) [] failed) behind_the_torn it_is_right it_does
+
+-- there B shows what it did, and what stood under it is lost
+shown_behind : (after_access K64 before 0 failed).picture ≡ plain 0 ones nulls ∷ record { volume = vol 1; now = ones ∷ nulls ∷ []; under = Lost ∷ nulls ∷ [] } ∷ []
+shown_behind = refl

@@ -1,7 +1,6 @@
 -- The disks fit the tables that a command leaves.
-use Rattle.std.proofs.Common.{◌≡◌, ℕ, ◌+◌, ◌<◌, ◌≤◌, ◌==◌, ◌^◌, Bool, true, not, Option, Some, None, IsSome, List, [], ◌∷◌, length, fold, map, All, Contains, is_some, ◌⊎◌, inl, inr, refl, sym, ap, subst, ◌∙◌, arith}
+use Rattle.std.proofs.Common.{◌≡◌, ℕ, ◌+◌, ◌<◌, ◌≤◌, ◌==◌, ◌^◌, Bool, not, Option, Some, None, IsSome, List, [], ◌∷◌, length, fold, map, All, Contains, ◌⊎◌, inl, inr, refl, sym, ap, subst, ◌∙◌, arith}
 use Rattle.std.specs.List.{filter}
-use Rattle.std.proofs.lemmas.Bool.{and_parts}
 use Rattle.std.proofs.lemmas.List.{get_or-map, length-map}
 use Rattle.std.proofs.lemmas.List.Elements.{Contains-append_cases}
 use Rattle.fc_base.specs.Pools.{Pool, of_kind, pool_without}
@@ -32,9 +31,10 @@ use Rattle.fc_legal.specs.Steps.{after_settling, decided_on, left_by}
 use Rattle.fc_legal.specs.Whole.{Whole, lane_at, lanes, pool_at, volumes_told}
 use Rattle.fc_parts.proofs.Told.{pools_of_all}
 use Rattle.fc_rules.specs.LaneTold.{LaneOf}
-use Rattle.fc_kept.specs.Disks.{NamedDisk, FitDisks, disk_of}
+use Rattle.fc_kept.specs.Disks.{NamedDisk, FitDisks, disk_of, is_free}
 use Rattle.fc_kept.specs.Recoverable.{disks_at}
-use Rattle.law_crash.specs.Leaving.{is_free, is_kind, AreFit, GoesOn, HaveTheirDisks}
+use Rattle.fc_kept.proofs.Free.{free_is}
+use Rattle.law_crash.specs.Leaving.{AreFit, GoesOn, HaveTheirDisks}
 use Rattle.law_crash.specs.Points.{Point, StandsFor}
 use Rattle.law_crash.proofs.Coming.{AreAbove, settle_above, settle_new, next_later}
 use Rattle.law_stands.proofs.Standing.{command_lawful}
@@ -46,21 +46,6 @@ use Rattle.law_volumes.proofs.Steps.{settling_keeps}
 
 abbrev pub FreeOne : DiskKind → List NamedDisk → Type 0
 FreeOne kind disks = (d : NamedDisk) × Contains disks d × (d.volume ≡ None) × (d.disk.kind ≡ kind)
-
-no_name : (o : Option VolId) → not (is_some o) ≡ true → o ≡ None
-no_name None e = refl
-no_name (Some id) e = absurd cc
-
-pub of_kind_is : (a b : DiskKind) → is_kind a b ≡ true → b ≡ a
-of_kind_is Flat Flat e = refl
-of_kind_is Flat Thin e = absurd cc
-of_kind_is Thin Flat e = absurd cc
-of_kind_is Thin Thin e = refl
-
-pub free_is : (kind : DiskKind) (d : NamedDisk) → is_free kind d ≡ true → (d.volume ≡ None) × (d.disk.kind ≡ kind)
-free_is kind d e =
-    let p = and_parts (not (is_some d.volume)) (is_kind kind d.disk.kind) e in
-    (no_name d.volume p.0, of_kind_is kind d.disk.kind p.1)
 
 free_in : (kind : DiskKind) (disks some : List NamedDisk) → filter (is_free kind) disks ≡ some → 0 < length some → FreeOne kind disks
 free_in kind disks [] e lt = absurd (omega (arith, lt))

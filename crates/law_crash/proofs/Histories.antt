@@ -54,7 +54,7 @@ use Rattle.law_crash.specs.Running.{Does, Does.refused, Does.read, Does.whole, D
 use Rattle.law_crash.proofs.Coming.{next_later, settle_new}
 use Rattle.law_crash.proofs.Doable.{can_stop, fill_doable, torn_of_step, write_doable}
 use Rattle.law_crash.proofs.Fitting.{TakesDisks, decided_comes, fits_now, pools_fewer, settling_pools}
-use Rattle.law_crash.proofs.Lawful.{clean_of, copy_of}
+use Rattle.law_crash.proofs.Lawful.{FillOf, clean_of, copy_of}
 use Rattle.law_crash.proofs.Leaving.{leaves_all, leaves_noted}
 use Rattle.law_crash.proofs.Making.{spot_in}
 use Rattle.law_crash.proofs.Opening.{opens}
@@ -138,23 +138,27 @@ module _ (grain : GrainSize) (w : Whole) (least : List Row) (p : Point) (d : Dis
   fill_by work m k NoMemory takes inside are can none asked a = wanting_ends work (steps_of_fill (spot_in grain w work) k) takes inside are can none a
   fill_by work m k reply takes inside are can none asked a = absurd a
 
+  are_fills : (work : Request) (k : ℕ) (o : Option ℕ) → o ≡ Some k → AreFillSteps (spot_in grain w work) o (steps_of_fill (spot_in grain w work) k)
+  are_fills work k o e = subst (λ (x : Option ℕ). AreFillSteps (spot_in grain w work) x (steps_of_fill (spot_in grain w work) k)) (sym e) refl
+
+  given_fill : (work : Request) (m k : ℕ) → IsInVolume grain w work → AreStepsOf grain w work (steps_of_fill (spot_in grain w work) k) → FillOf grain w work (steps_of_fill (spot_in grain w work) k) →
+      Takes entry.request work → done_write entry.request entry.reply ≡ None → asked_write entry.request ≡ None → FillAnswers (spot_in grain w work) m k entry entry.reply → EndsHere
+  given_fill work m k inside are of takes none asked a =
+      fill_by work m k entry.reply takes inside are (fill_doable grain w work p.kept.rows (steps_of_fill (spot_in grain w work) k) sound of are) none asked a
+
   copy_by : (m : MapId) (g : GrainNo) (o : Option ℕ) → copied_slot w.books.sheet.slots m.0 (place_of (single_lane grain) g.0) ≡ o → Takes entry.request (Copy m g) → done_write entry.request entry.reply ≡ None → asked_write entry.request ≡ None →
       MappingFill (single_lane grain) (as_one w) m.0 g.0 o entry → EndsHere
   copy_by m g None e takes none asked a = absurd a
   copy_by m g (Some k) e takes none asked a =
-      let work : Request = Copy m g in
-      let steps : List DiskStep = steps_of_fill (spot_in grain w work) k in
-      let are : AreStepsOf grain w work steps = subst (λ (o : Option ℕ). AreFillSteps (spot_in grain w work) o steps) (sym e) refl in
-      fill_by work m.0 k entry.reply takes tt are (fill_doable grain w work p.kept.rows steps sound (copy_of grain w m g steps are) are) none asked a
+      let are = are_fills (Copy m g) k (copied_slot w.books.sheet.slots m.0 (place_of (single_lane grain) g.0)) e in
+      given_fill (Copy m g) m.0 k tt are (copy_of grain w m g (steps_of_fill (spot_in grain w (Copy m g)) k) are) takes none asked a
 
   clean_by : (m : MapId) (g : GrainNo) (o : Option ℕ) → cleaned_slot w.books.sheet.slots m.0 (place_of (single_lane grain) g.0) ≡ o → Takes entry.request (Clean m g) → done_write entry.request entry.reply ≡ None → asked_write entry.request ≡ None →
       MappingFill (single_lane grain) (as_one w) m.0 g.0 o entry → EndsHere
   clean_by m g None e takes none asked a = absurd a
   clean_by m g (Some k) e takes none asked a =
-      let work : Request = Clean m g in
-      let steps : List DiskStep = steps_of_fill (spot_in grain w work) k in
-      let are : AreStepsOf grain w work steps = subst (λ (o : Option ℕ). AreFillSteps (spot_in grain w work) o steps) (sym e) refl in
-      fill_by work m.0 k entry.reply takes tt are (fill_doable grain w work p.kept.rows steps sound (clean_of grain w m g steps sound are) are) none asked a
+      let are = are_fills (Clean m g) k (cleaned_slot w.books.sheet.slots m.0 (place_of (single_lane grain) g.0)) e in
+      given_fill (Clean m g) m.0 k tt are (clean_of grain w m g (steps_of_fill (spot_in grain w (Clean m g)) k) sound are) takes none asked a
 
   write_steps : (part : WritePart) (t : ℕ) → lane_access (as_one w).volumes part.volume ≡ Online → live_place w.books.sheet.slots part.volume.0 ≡ Some t → cannot_write grain (spot_in grain w (Write part)) part ≡ false →
       AreStepsOf grain w (Write part) (steps_of_write grain (spot_in grain w (Write part)) part t)

@@ -332,23 +332,33 @@ found_own grain w least part steps o rows p q one true inside can is a e f =
 found_own grain w least part steps o rows p q one false inside can is a e f =
     found_data grain w least part steps o p q one inside can is (ready_unmarked grain w least part o.t rows p a e) f
 
+-- a write that begins: its moves, and that its own grain can be written behind them
+record WriteBegun (grain : GrainSize) (w : Whole) (part : WritePart) (steps : List DiskStep) : Type 0 where
+  written : WriteOf grain w part steps
+  moves : Moves grain w (Write part) (moves_in grain w part written.t) (own_in grain w part written.t ∷ [])
+  can : CanWriteAt (chains_in grain w part written.t) (grain_of_block grain part.block) written.t part.volume.0
+
+write_begun : (grain : GrainSize) (w : Whole) (least : List Row) (part : WritePart) (steps : List DiskStep) (p : Point) → Begins grain w least (Write part) steps p → WriteBegun grain w part steps
+write_begun grain w least part steps p b =
+    let o = write_of grain w part steps b.steps_are in
+    record { written = o; moves = moves_given grain w part steps b.sound b.inside o b.steps_are; can = can_write_at grain w part o.t b.sound b.inside o.place }
+
 write_found : (grain : GrainSize) (w : Whole) (least : List Row) (part : WritePart) (steps : List DiskStep) (p q : Point) (one : Option Another) → Begins grain w least (Write part) steps p →
     Finds grain w (Write part) w.books.sheet (actions_of_steps p.kept.rows (grain_of_block grain part.block) steps) p one q → Recoverable grain q.disks q.kept w least (Some (Write part)) one
 write_found grain w least part steps p q one b f =
     let g : ℕ = grain_of_block grain part.block in
     let rows : List Row = p.kept.rows in
-    let o = write_of grain w part steps b.steps_are in
+    let x = write_begun grain w least part steps p b in
+    let o = x.written in
     let moves : List ℕ = moves_in grain w part o.t in
-    let m = moves_given grain w part steps b.sound b.inside o b.steps_are in
-    let can = can_write_at grain w part o.t b.sound b.inside o.place in
     let is : Prefix grain w least (Some (Write part)) (with_sheet w (chains_in grain w part o.t)) (after_note least (Wrote part.volume.0 g)) =
     subst (λ (x : List Row). Prefix grain w least (Some (Write part)) (with_sheet w (chains_in grain w part o.t)) x) (least_asked_is grain least part)
     (prefix_at grain w least (Write part) moves [] (own_in grain w part o.t ∷ [])
-    (subst (λ (z : List ℕ). AreStepsOf grain w (Write part) (steps_in grain w (Write part) z ++ own_in grain w part o.t ∷ [])) (sym (append-nil moves)) m.steps_are)) in
-    let behind : FoundBehind grain w least (Write part) rows moves (own_in grain w part o.t ∷ []) one q = λ x a y.
-    found_own grain w least part steps o rows x q one (list_any (is_unmarked part.volume.0 g) rows) b.inside can is a refl
-    (subst (λ (z : DiskStep). Finds grain w (Write part) (chains_in grain w part o.t) (own_actions rows g z) x one q) (own_is grain w part steps o) y) in
-    found_moves grain w least (Write part) rows moves (own_in grain w part o.t ∷ []) q one m behind moves [] p refl (at_first grain w least (Write part) p b.stands)
+    (subst (λ (z : List ℕ). AreStepsOf grain w (Write part) (steps_in grain w (Write part) z ++ own_in grain w part o.t ∷ [])) (sym (append-nil moves)) x.moves.steps_are)) in
+    let behind : FoundBehind grain w least (Write part) rows moves (own_in grain w part o.t ∷ []) one q = λ y a h.
+    found_own grain w least part steps o rows y q one (list_any (is_unmarked part.volume.0 g) rows) b.inside x.can is a refl
+    (subst (λ (z : DiskStep). Finds grain w (Write part) (chains_in grain w part o.t) (own_actions rows g z) y one q) (own_is grain w part steps o) h) in
+    found_moves grain w least (Write part) rows moves (own_in grain w part o.t ∷ []) q one x.moves behind moves [] p refl (at_first grain w least (Write part) p b.stands)
     (subst (λ (z : List DiskStep). Finds grain w (Write part) w.books.sheet (actions_of_steps rows g z) p one q) o.steps_are f)
 
 -- ---- all of it
@@ -376,13 +386,12 @@ write_stands : (grain : GrainSize) (w : Whole) (least : List Row) (part : WriteP
 write_stands grain w least part steps p q b f =
     let g : ℕ = grain_of_block grain part.block in
     let rows : List Row = p.kept.rows in
-    let o = write_of grain w part steps b.steps_are in
+    let x = write_begun grain w least part steps p b in
+    let o = x.written in
     let moves : List ℕ = moves_in grain w part o.t in
-    let m = moves_given grain w part steps b.sound b.inside o b.steps_are in
-    let can = can_write_at grain w part o.t b.sound b.inside o.place in
-    did_moves grain w least (Write part) rows moves (own_in grain w part o.t ∷ []) (own_in grain w part o.t ∷ []) q (Over grain w least part steps q) m moves [] [] p (sym (append-nil moves)) (at_first grain w least (Write part) p b.stands)
-    (λ x a y. did_own grain w least part steps o rows x q (list_any (is_unmarked part.volume.0 g) rows) can a refl
-    (subst (λ (z : DiskStep). Did grain w (Write part) (chains_in grain w part o.t) (own_actions rows g z) x q) (own_is grain w part steps o) y))
+    did_moves grain w least (Write part) rows moves (own_in grain w part o.t ∷ []) (own_in grain w part o.t ∷ []) q (Over grain w least part steps q) x.moves moves [] [] p (sym (append-nil moves)) (at_first grain w least (Write part) p b.stands)
+    (λ y a h. did_own grain w least part steps o rows y q (list_any (is_unmarked part.volume.0 g) rows) x.can a refl
+    (subst (λ (z : DiskStep). Did grain w (Write part) (chains_in grain w part o.t) (own_actions rows g z) y q) (own_is grain w part steps o) h))
     (subst (λ (z : List DiskStep). Did grain w (Write part) w.books.sheet (actions_of_steps rows g z) p q) o.steps_are f)
 
 -- ---- copies and cleanings

@@ -4,11 +4,10 @@ use Rattle.std.specs.List.{filter}
 use Rattle.std.proofs.lemmas.Bool.{cases_Bool, eq-eqb, ne_eqb}
 use Rattle.fc_base.specs.declared.disk.DiskKind.{DiskKind}
 use Rattle.fc_base.specs.declared.ids.VolId.{VolId}
-use Rattle.fc_kept.specs.Disks.{NamedDisk, is_of, disk_of}
+use Rattle.fc_kept.specs.Disks.{NamedDisk, is_of, disk_of, is_free, is_kind}
 use Rattle.fc_kept.specs.Recoverable.{disks_at}
-use Rattle.law_crash.specs.Leaving.{is_free, is_kind}
+use Rattle.fc_kept.proofs.Free.{free_is, nobodys}
 use Rattle.law_crash.proofs.Disks.{find_by}
-use Rattle.law_crash.proofs.Fitting.{free_is}
 
 -- the disk, with the name and these grains
 abbrev pub with_name : VolId → List (List ℕ) → NamedDisk → NamedDisk
@@ -27,7 +26,7 @@ filter_by kind d ds b e = ap (λ (c : Bool). cond c (d ∷ filter (is_free kind)
 
 -- a free disk is no volume's
 free_of_none : (kind : DiskKind) (d : NamedDisk) (v : ℕ) → is_free kind d ≡ true → is_of v d ≡ false
-free_of_none kind d v e = ap (λ (o : Option VolId). is_of v (record d { volume = o })) (free_is kind d e).0
+free_of_none kind d v e = nobodys v d (free_is kind d e).0
 
 -- ---- whose disk it is then
 

@@ -13,15 +13,15 @@ use Rattle.fc_books.specs.Sound.{AreTables}
 use Rattle.fc_decided.proofs.Lists.{find_from}
 use Rattle.fc_decided.proofs.Ordered.{found_by_id, one_of_id}
 use Rattle.fc_entry.specs.Picture.{Bytes}
-use Rattle.fc_kept.specs.Disks.{NamedDisk, FitDisks, disk_of, on_disk}
+use Rattle.fc_kept.specs.Disks.{NamedDisk, FitDisks, disk_of, on_disk, is_kind}
 use Rattle.fc_kept.specs.Recoverable.{disks_at}
+use Rattle.fc_kept.proofs.Free.{kind_is}
 use Rattle.fc_legal.specs.Whole.{Whole, lane_at, lane_of_grain, lanes, pool_at}
 use Rattle.fc_parts.proofs.Numbers.{grain_below}
 use Rattle.fc_rules.specs.LaneTold.{LaneOf, grains_in, place_of}
-use Rattle.law_crash.specs.Leaving.{is_kind, AreFit, AreUnnamed, HaveTheirDisks}
+use Rattle.law_crash.specs.Leaving.{AreFit, AreUnnamed, HaveTheirDisks}
 use Rattle.law_crash.specs.Points.{on_disks}
 use Rattle.law_crash.specs.Running.{StayAs}
-use Rattle.law_crash.proofs.Fitting.{of_kind_is}
 use Rattle.law_crash.proofs.Lost.{all_in_is}
 use Rattle.law_crash.proofs.Naming.{IsNamed, as_many_lanes, first_named, free_count, lane_named, name_first, name_lanes, no_less, one_less, others_named}
 
@@ -174,9 +174,9 @@ module _ (grain : GrainSize) (w left : Whole) (n : ℕ) (disks : List (List Name
       elim (cases_Bool (is_kind kind v.kind)) [
         | inl e ↦
             let lt : of_kind kind (pool_at left.books.pools i) < of_kind kind (pool_at w.books.pools i) =
-            subst (λ (k : DiskKind). of_kind k (pool_at left.books.pools i) < of_kind k (pool_at w.books.pools i)) (of_kind_is kind v.kind e) (took i il) in
+            subst (λ (k : DiskKind). of_kind k (pool_at left.books.pools i) < of_kind k (pool_at w.books.pools i)) (kind_is kind v.kind e) (took i il) in
             let more : free_count kind (disks_at disks i) ≤ free_count kind (name_first v.kind v.id (zeros_in i) (disks_at disks i)) + 1 =
-            subst (λ (k : DiskKind). free_count kind (disks_at disks i) ≤ free_count kind (name_first k v.id (zeros_in i) (disks_at disks i)) + 1) (sym (of_kind_is kind v.kind e)) (one_less kind v.id (zeros_in i) (disks_at disks i)) in
+            subst (λ (k : DiskKind). free_count kind (disks_at disks i) ≤ free_count kind (name_first k v.id (zeros_in i) (disks_at disks i)) + 1) (sym (kind_is kind v.kind e)) (one_less kind v.id (zeros_in i) (disks_at disks i)) in
             omega (arith, here, le, lt, more)
         | inr e ↦
             let few = x.fewer i kind il in

@@ -49,13 +49,17 @@ IsStill (Work m copies cleans) = Unit {0}
 IsStill (Arm volume grain calls) = Unit {0}
 IsStill e = ⊥
 
-abbrev pub AreStill : List LaneEvent → Type 0
-AreStill [] = Unit {0}
-AreStill (e ∷ es) = IsStill e × AreStill es
+-- each of a list
+abbrev pub Each : {X : Type 0} → (X → Type 0) → List X → Type 0
+Each P [] = Unit {0}
+Each P (x ∷ xs) = P x × Each P xs
 
-still_append : (xs ys : List LaneEvent) → AreStill xs → AreStill ys → AreStill (xs ++ ys)
-still_append [] ys first second = second
-still_append (x ∷ xs) ys first second = (first.0, still_append xs ys first.1 second)
+abbrev pub AreStill : List LaneEvent → Type 0
+AreStill es = Each IsStill es
+
+pub each_append : {X : Type 0} (P : X → Type 0) (xs ys : List X) → Each P xs → Each P ys → Each P (xs ++ ys)
+each_append P [] ys first second = second
+each_append P (x ∷ xs) ys first second = (first.0, each_append P xs ys first.1 second)
 
 -- ---- deeds
 
@@ -80,7 +84,7 @@ parts d e none =
     ((f.0, c.0), (f.1, c.1))
 
 both_rest : (d e : Deed) → Rests d → Rests e → Rests (d then e)
-both_rest d e first second none = let p = parts d e none in still_append d.events e.events (first p.0) (second p.1)
+both_rest d e first second none = let p = parts d e none in each_append IsStill d.events e.events (first p.0) (second p.1)
 
 all_rest : {X : Type 0} (deed : X → Deed) (xs : List X) → ((x : X) → Rests (deed x)) → Rests (all_deeds deed xs)
 all_rest deed [] each none = tt
@@ -281,7 +285,7 @@ works_still : (b : Books) (ms : List Mapping) → AreStill (map (λ m. Work m.id
 works_still b [] = tt
 works_still b (m ∷ ms) = (tt, works_still b ms)
 
-work_still : (b : Books) → AreStill (work_events b)
+pub work_still : (b : Books) → AreStill (work_events b)
 unfolding work_events
 work_still b = works_still b (filter (changes_work b) b.tables.mappings)
 
@@ -291,7 +295,7 @@ answered_rests sets grain b command (Some refusal) loop e effects changes = work
 answered_rests sets grain b command None (Some volumes) e effects changes = work_still (after_deed sets b nothing)
 answered_rests sets grain b command None None e effects changes =
     let deed : Deed = done grain b command in
-    still_append deed.events (work_events (after_deed sets b deed)) (done_rests grain b command e (effects, changes)) (work_still (after_deed sets b deed))
+    each_append IsStill deed.events (work_events (after_deed sets b deed)) (done_rests grain b command e (effects, changes)) (work_still (after_deed sets b deed))
 
 -- so does a decision without effect
 pub decide_rests : (sets : ℕ → List Bool) (grain : GrainSize) (b : Books) (command : Command) (loop : Option (List VolId)) →

@@ -41,7 +41,7 @@ use Rattle.fc_sheets.proofs.Steps.{Nobody}
 use Rattle.law_crash.specs.Leaving.{GoesOn}
 use Rattle.law_crash.specs.Points.{Point, StandsFor}
 use Rattle.law_crash.proofs.Folding.{left_dropped}
-use Rattle.law_crash.proofs.Resting.{AreStill, decide_rests, settle_rests}
+use Rattle.law_crash.proofs.Resting.{AreStill, Each, decide_rests, settle_rests}
 use Rattle.law_stands.proofs.Standing.{stands_law_holds}
 
 -- ---- where tables stay, no mapping loses its slot
@@ -94,8 +94,7 @@ IsCalm (Arm volume grain calls) = Unit {0}
 IsCalm e = ⊥
 
 abbrev AreCalm : List LaneEvent → Type 0
-AreCalm [] = Unit {0}
-AreCalm (e ∷ es) = IsCalm e × AreCalm es
+AreCalm es = Each IsCalm es
 
 still_calm : (es : List LaneEvent) → AreStill es → AreCalm es
 still_calm [] still = tt

@@ -12,7 +12,7 @@ use Rattle.fc_base.specs.declared.volume.Volume.{Volume}
 use Rattle.fc_decided.proofs.Lists.{find_from}
 use Rattle.fc_entry.specs.Picture.{Content, Bytes}
 use Rattle.fc_kept.specs.Actions.{Action, Action.Data, Action.Note, Action.Fold}
-use Rattle.fc_kept.specs.Disks.{NamedDisk, is_of, disk_of, on_disk}
+use Rattle.fc_kept.specs.Disks.{NamedDisk, is_of, disk_of, on_disk, is_free, is_kind}
 use Rattle.fc_kept.specs.Images.{grains_told, size_in}
 use Rattle.fc_kept.specs.Kept.{sheet_kept}
 use Rattle.fc_kept.specs.Recoverable.{disks_at}
@@ -22,7 +22,7 @@ use Rattle.fc_parts.proofs.Numbers.{grain_below, number_of_place}
 use Rattle.fc_rules.specs.LaneTold.{LaneOf, place_of, number_at, grains_in}
 use Rattle.fc_rules.specs.Steps.{DiskStep}
 use Rattle.law_crash.specs.Doing.{SameDisk, IsWritten, StepWrites, number_of, content_of, noted, with_kept, with_disks, Did}
-use Rattle.law_crash.specs.Leaving.{is_free, is_kind, AreFit, HaveTheirDisks}
+use Rattle.law_crash.specs.Leaving.{AreFit, HaveTheirDisks}
 use Rattle.law_crash.specs.Points.{Point}
 use Rattle.law_crash.proofs.Disks.{same_name, find_by, fit_still}
 use Rattle.law_crash.proofs.Leaving.{some_volume}
@@ -193,7 +193,7 @@ counted_as : (x y : NamedDisk) (xs ys : List NamedDisk) (b : Bool) → length ys
 counted_as x y xs ys true e = ap suc e
 counted_as x y xs ys false e = e
 
-as_many : (kind : DiskKind) (xs ys : List NamedDisk) → AllZip SameDisk xs ys → length (filter (is_free kind) ys) ≡ length (filter (is_free kind) xs)
+pub as_many : (kind : DiskKind) (xs ys : List NamedDisk) → AllZip SameDisk xs ys → length (filter (is_free kind) ys) ≡ length (filter (is_free kind) xs)
 as_many kind [] [] s = refl
 as_many kind [] (y ∷ ys) s = absurd s
 as_many kind (x ∷ xs) [] s = absurd s

@@ -1,9 +1,8 @@
 -- What a command leaves of metadata.
-use Rattle.std.specs.Prelude.{◌≡◌, ℕ, ◌<◌, ◌≤◌, Bool, true, false, ◌&&◌, not, List, length, filter, Contains, None, IsSome, is_some, map}
+use Rattle.std.specs.Prelude.{◌≡◌, ℕ, ◌<◌, ◌≤◌, List, length, filter, Contains, None, IsSome, map}
 use Rattle.fc_base.specs.Pools.{of_kind}
 use Rattle.fc_base.specs.declared.command.Command.{Command}
 use Rattle.fc_base.specs.declared.disk.DiskKind.{DiskKind}
-use Rattle.fc_base.specs.declared.disk.DiskKind.TheVariants.{Flat, Thin}
 use Rattle.fc_base.specs.declared.size.GrainSize.{GrainSize}
 use Rattle.fc_base.specs.declared.volume.Volume.{Volume}
 use Rattle.fc_changed.specs.Notes.{grains_with}
@@ -11,7 +10,7 @@ use Rattle.fc_changed.specs.Row.{Row}
 use Rattle.fc_follow.specs.Alike.{AreAlike}
 use Rattle.fc_legal.specs.Whole.{Whole, all_followed, lane_at, pool_at}
 use Rattle.law_stands.specs.Reached.{IsReached}
-use Rattle.fc_kept.specs.Disks.{NamedDisk, FitDisks, disk_of}
+use Rattle.fc_kept.specs.Disks.{NamedDisk, FitDisks, disk_of, is_free}
 use Rattle.fc_kept.specs.Kept.{LostGrains, Kept, is_lost_in}
 use Rattle.fc_kept.specs.Marks.{AreMarked, LeastLeft}
 use Rattle.fc_kept.specs.Recoverable.{disks_at}
@@ -46,15 +45,6 @@ pub data Leaves (grain : GrainSize) (w : Whole) (least : List Row) (k : Kept) (c
 -- No disk has the name of a volume that is yet to come.
 abbrev pub AreUnnamed : Whole → List (List NamedDisk) → Type 0
 AreUnnamed w disks = (i v : ℕ) → w.books.next_volume ≤ v → disk_of (disks_at disks i) v ≡ None
-
--- Whether two kinds are one; and whether a disk is free for a new volume of this kind.
-abbrev pub is_kind : DiskKind → DiskKind → Bool
-is_kind Flat Flat = true
-is_kind Thin Thin = true
-is_kind kind other = false
-
-abbrev pub is_free : DiskKind → NamedDisk → Bool
-is_free kind disk = not (is_some disk.volume) && is_kind kind disk.disk.kind
 
 -- Each volume has its disk in each lane; and of each kind as many disks are free there as the pools say, or more.
 pub record HaveTheirDisks (w : Whole) (disks : List (List NamedDisk)) : Type 0 where

@@ -1,21 +1,18 @@
 -- Actions that were done, one after the other.
-use Rattle.std.proofs.Common.{◌≡◌, ℕ, Bool, true, false, ◌==◌, ◌&&◌, not, if◌then◌else◌, List, [], ◌∷◌, ◌++◌, length, get_or, map, fold, refl, sym, ap, subst, ◌∙◌, inl, inr, length-set}
-use Rattle.std.proofs.lemmas.Bool.{cond_both}
-use Rattle.std.proofs.lemmas.List.Elements.{All-map}
+use Rattle.std.proofs.Common.{◌≡◌, ℕ, Bool, true, false, ◌==◌, ◌&&◌, not, if◌then◌else◌, List, [], ◌∷◌, ◌++◌, map, fold, refl, sym, ap, subst, ◌∙◌, inl, inr}
 use Rattle.fc_base.specs.Sheet.{Sheet}
 use Rattle.fc_base.specs.Tables.{Tables}
-use Rattle.fc_base.specs.declared.ids.VolId.{VolId}
 use Rattle.fc_base.specs.declared.request.Move.{Move}
 use Rattle.fc_base.specs.declared.request.Request.{Request}
 use Rattle.fc_base.specs.declared.size.GrainSize.{GrainSize}
 use Rattle.fc_changed.specs.Row.{Row}
 use Rattle.fc_image.specs.declared.record.MetaRecord.{MetaRecord}
-use Rattle.fc_image.specs.declared.record.MetaRecord.TheVariants.{Pair, Written, Torn, Changing}
+use Rattle.fc_image.specs.declared.record.MetaRecord.TheVariants.{Pair}
 use Rattle.fc_kept.specs.Actions.{Action, Action.Data, Action.Note, Action.Fold, actions_of_move, record_of_move}
 use Rattle.fc_kept.specs.Disks.{NamedDisk}
-use Rattle.fc_kept.specs.Images.{size_in}
-use Rattle.fc_kept.specs.Kept.{Kept, LostGrains, lost_kept, lost_put, sheet_kept}
+use Rattle.fc_kept.specs.Kept.{Kept, sheet_kept}
 use Rattle.fc_kept.specs.Sound.{AreLost}
+use Rattle.fc_kept.proofs.Soundly.{lost_sounds}
 use Rattle.fc_legal.specs.Whole.{Whole, single_lane}
 use Rattle.fc_parts.proofs.Numbers.{all_place}
 use Rattle.fc_rules.specs.LaneTold.{sheet_move}
@@ -66,34 +63,6 @@ module _ (grain : GrainSize) (w : Whole) (r : Request) where
 
 -- ---- and its row of lost grains
 
-put_volume : (v g : ℕ) (b : Bool) (row : LostGrains) → (lost_put v g b row).volume ≡ row.volume
-put_volume v g b row = cond_both _ _ row (λ (z : LostGrains). z.volume ≡ row.volume) (λ e. refl) (λ e. refl)
-
-put_size : (v g : ℕ) (b : Bool) (row : LostGrains) → length (lost_put v g b row).lost ≡ length row.lost
-put_size v g b row = cond_both _ _ row (λ (z : LostGrains). length z.lost ≡ length row.lost) (λ e. length-set row.lost g b) (λ e. refl)
-
-volumes_put : (v g : ℕ) (b : Bool) (rows : List LostGrains) → map (λ (row : LostGrains). row.volume) (map (lost_put v g b) rows) ≡ map (λ (row : LostGrains). row.volume) rows
-volumes_put v g b [] = refl
-volumes_put v g b (row ∷ rows) =
-    ap (λ (z : ℕ). z ∷ map (λ (row : LostGrains). row.volume) (map (lost_put v g b) rows)) (put_volume v g b row)
-    ∙ ap (λ (z : List ℕ). row.volume ∷ z) (volumes_put v g b rows)
-
-lost_put_so : (t : Tables) (v g : ℕ) (b : Bool) (rows : List LostGrains) → AreLost t rows → AreLost t (map (lost_put v g b) rows)
-lost_put_so t v g b rows all =
-    record {
-      volumes = volumes_put v g b rows ∙ all.volumes;
-      sizes = All-map (λ (row : LostGrains). length row.lost ≡ size_in t record { 0 = row.volume }) (lost_put v g b) rows (λ k d kl.
-          let row = get_or rows k d in
-          put_size v g b row ∙ (all.sizes k d kl ∙ ap (λ (z : ℕ). let id : VolId = record { 0 = z } in size_in t id) (sym (put_volume v g b row))));
-    }
-
-lost_so : (t : Tables) (lost : List LostGrains) (n : MetaRecord) → AreLost t lost → AreLost t (lost_kept lost n)
-lost_so t lost (Pair slot volume grain true empty) all = all
-lost_so t lost (Pair slot volume grain false empty) all = lost_put_so t volume.0 grain.0 empty lost all
-lost_so t lost (Written volume grain) all = lost_put_so t volume.0 grain.0 false lost all
-lost_so t lost (Torn volume grain side) all = lost_put_so t volume.0 grain.0 true lost all
-lost_so t lost (Changing volume grain) all = all
-
 folded_lost : (t : Tables) (chains : Sheet) (old new : Kept) → MayFold chains old new → AreLost t old.lost → AreLost t new.lost
 folded_lost t chains old new m all =
     elim m [
@@ -105,7 +74,7 @@ pub did_lost : (grain : GrainSize) (w : Whole) (r : Request) (t : Tables) (chain
 did_lost grain w r t chains [] p q did all = subst (λ (z : Point). AreLost t z.kept.lost) (sym did) all
 did_lost grain w r t chains (Note n ∷ rest) p q did all =
     did_lost grain w r t (sheet_kept chains n) rest (noted n (with_kept did.0 p)) q did.2
-    (lost_so t did.0.lost n (folded_lost t chains p.kept did.0 did.1 all))
+    (lost_sounds t did.0.lost n (folded_lost t chains p.kept did.0 did.1 all))
 did_lost grain w r t chains (Data step ∷ rest) p q did all = did_lost grain w r t chains rest (with_disks did.0 p) q did.2 all
 did_lost grain w r t chains (Fold ∷ rest) p q did all = absurd did
 

@@ -1,5 +1,6 @@
 -- The lane of an entry in hand: where its next step stands among the steps of the entry.
-use Rattle.std.proofs.Common.{◌≡◌, ℕ, ◌+◌, ◌%◌, false, take, drop, Some, None, List, [], ◌∷◌, ◌++◌, length, map, refl, sym, ap, subst, ◌∙◌, arith}
+use Rattle.std.proofs.Common.{◌≡◌, ◌≢◌, ℕ, ◌+◌, ◌%◌, ◌<◌, false, take, drop, Some, None, List, [], ◌∷◌, ◌++◌, length, map, refl, sym, ap, subst, ◌∙◌, arith}
+use Rattle.std.specs.List.{AllZip}
 use Rattle.std.proofs.lemmas.List.{append_assoc, length-map, map-append}
 use Rattle.fc_base.specs.Tables.{Tables}
 use Rattle.fc_base.specs.declared.request.Move.{Move}
@@ -7,13 +8,16 @@ use Rattle.fc_base.specs.declared.request.Request.{Request}
 use Rattle.fc_base.specs.declared.request.Torn.{Torn}
 use Rattle.fc_base.specs.declared.size.GrainSize.{GrainSize}
 use Rattle.fc_changed.specs.Row.{Row}
-use Rattle.fc_kept.specs.Disks.{FitDisks}
+use Rattle.fc_grains.specs.Grains.{GrainsState}
+use Rattle.fc_kept.specs.Disks.{FitDisks, NamedDisk}
+use Rattle.fc_kept.specs.Kept.{Kept}
 use Rattle.fc_kept.specs.Recoverable.{disks_at}
 use Rattle.fc_kept.specs.Sound.{AreLost}
 use Rattle.fc_lane.specs.Doing.{FitsAsk, HasCome, IsUnderWay}
 use Rattle.fc_lane.specs.Lane.{LaneView, of}
 use Rattle.fc_lane.specs.declared.doing.Doing.{Doing}
 use Rattle.fc_legal.specs.Whole.{Whole, lane_at, lane_of_grain, lanes, part_at}
+use Rattle.fc_parts.proofs.Decisions.{part_follows}
 use Rattle.fc_parts.proofs.Numbers.{IsOf}
 use Rattle.fc_pictures.specs.Law.{now_of}
 use Rattle.fc_rules.specs.LaneTold.{LaneOf, LaneTold, place_of}
@@ -21,6 +25,7 @@ use Rattle.fc_rules.specs.Spot.{Spot, move_in}
 use Rattle.fc_rules.specs.Steps.{DiskStep, step_of_move}
 use Rattle.fc_steps.specs.Asking.{request_of}
 use Rattle.fc_steps.specs.Moving.{SameLane}
+use Rattle.fc_steps.specs.Standing.{kind_of_told}
 use Rattle.fc_steps.specs.StepsEnd.{FailedIn}
 use Rattle.fc_steps.specs.UnderWay.{AreUnderWay, grain_asked, moving_asked, slot_asked, spot_asked, steps_asked}
 use Rattle.fc_steps.specs.declared.ask.Ask.{Ask}
@@ -28,16 +33,17 @@ use Rattle.fc_steps.specs.declared.ask.Ask.TheVariants.{Write, Copy, Clean}
 use Rattle.fc_steps.specs.declared.stepping.Steps.{Steps}
 use Rattle.fc_steps.specs.declared.stop.Stop.TheVariants.{Failed}
 use Rattle.fc_steps.proofs.Naming.{some_is}
-use Rattle.law_crash.specs.Doing.{actions_of_steps, number_of}
+use Rattle.law_crash.specs.Doing.{SameDisk, actions_of_steps, number_of}
 use Rattle.law_crash.specs.Points.{Point}
 use Rattle.law_crash.proofs.Making.{spot_in, steps_in}
 use Rattle.law_crash.proofs.Stopping.{one_step}
 use Rattle.law_crash.proofs.Writing.{AreDoable, Disked}
 use Rattle.law_noted.specs.Came.{Came, own_done, steps_done}
-use Rattle.law_noted.specs.DataSteps.{IsInHand}
+use Rattle.law_noted.specs.DataSteps.{Along, GoAlong, IsInHand}
 use Rattle.law_noted.proofs.DataCame.{DoneTo, done_to}
 use Rattle.law_noted.proofs.DataEnds.{asked_doable}
 use Rattle.law_noted.proofs.NextSteps.{MadeAt, failed_by, made_at, stays_by, torn_in_step, torn_next}
+use Rattle.law_noted.proofs.Once.{once_of_tables}
 use Rattle.law_noted.proofs.Places.{fits_same, number_same, owns_asked, shown_all, slot_all, slot_same, spot_all, steps_all, steps_split}
 
 -- nothing stands before the write itself but moves
@@ -181,6 +187,27 @@ module _ (grain : GrainSize) (w : Whole) (least : List Row) (place : ℕ) (doing
       let c = come_new after new u ask_is in
       let t : Steps = after.steps in
       stays_by (of begun) told t.ask c.slot (take t.made t.planned.moves) (drop t.made t.planned.moves) t.calls t.stop t.written begun.chains new.chains begun.grains new.grains c.way.came
+
+  -- disks go along that keep names, kinds and sizes, if those of the lane and of all others do
+  pub along_by : (after : Doing) (new : LaneView) (k : Kept) (disks : List (List NamedDisk)) → IsUnderWay begun after new → after.steps.ask ≡ s.ask → length disks ≡ length q.disks → length q.disks ≡ lanes w →
+      ((i : ℕ) → AllZip SameDisk (disks_at q.disks i) (disks_at disks i)) → Along l q.kept k old.grains new.grains (disks_at q.disks place) (disks_at disks place) →
+      ((i : ℕ) (still : GrainsState) → i < lanes w → i ≢ place → Along (lane_at grain w i) q.kept k still still (disks_at q.disks i) (disks_at disks i)) →
+      GoAlong grain w place q.kept k old.grains new.grains q.disks disks
+  along_by after new k disks u ask_is count lanes_are same here others =
+      let is = same_new after new u ask_is in
+      record {
+        count = count;
+        lanes_are = lanes_are;
+        same = same;
+        kinds = is.each ∙ sym same_old.each;
+        sizes = λ v. is.sizes v ∙ sym (same_old.sizes v);
+        pooled = is.pooled ∙ sym same_old.pooled;
+        aside = is.aside ∙ sym same_old.aside;
+        once = once_of_tables w.books.tables new.grains.volumes h.stands.sound.tables.volumes.rising
+            (is.each ∙ (h.told.parts.beside.same ∙ ap (map kind_of_told) (part_follows grain w place).volumes));
+        here = here;
+        others = others;
+      }
 
   -- what its failed write tore
   pub torn_so : (after : Doing) (new : LaneView) (torn : Torn) (done : List ℕ) (back : List DiskStep) (step : DiskStep) → IsUnderWay begun after new → after.steps.ask ≡ s.ask →

@@ -1,5 +1,5 @@
 -- The law of steps of data.
-use Rattle.std.proofs.Common.{◌≡◌, ◌≢◌, ℕ, ◌+◌, Bool, false, not, cond, is_some, Option, Some, None, List, map, refl, sym, ap, subst, ◌∙◌, arith}
+use Rattle.std.proofs.Common.{◌≡◌, ◌≢◌, ℕ, ◌+◌, Bool, false, not, cond, is_some, Option, Some, None, List, refl, sym, ap, subst, ◌∙◌, arith}
 use Rattle.fc_base.specs.declared.request.Request.{Request}
 use Rattle.fc_base.specs.declared.size.GrainSize.{GrainSize}
 use Rattle.fc_changed.specs.Row.{Row}
@@ -8,13 +8,10 @@ use Rattle.fc_image.specs.declared.record.MetaRecord.{MetaRecord}
 use Rattle.fc_lane.specs.Doing.{IsUnderWay}
 use Rattle.fc_lane.specs.Lane.{LaneView}
 use Rattle.fc_lane.specs.declared.doing.Doing.{Doing}
-use Rattle.fc_legal.specs.Whole.{Whole, lane_at, part_at}
-use Rattle.fc_parts.proofs.Decisions.{part_follows}
+use Rattle.fc_legal.specs.Whole.{Whole, part_at}
 use Rattle.fc_rules.specs.LaneTold.{LaneOf, LaneTold}
-use Rattle.fc_rules.specs.Spot.{Spot}
 use Rattle.fc_rules.specs.Steps.{DiskStep}
 use Rattle.fc_steps.specs.Asking.{request_of}
-use Rattle.fc_steps.specs.Standing.{kind_of_told}
 use Rattle.fc_steps.specs.UnderWay.{OwnStored, after_step, next_of}
 use Rattle.fc_steps.specs.declared.ask.Ask.{Ask}
 use Rattle.fc_steps.specs.declared.body.StepEnd.{StepEnd}
@@ -23,17 +20,15 @@ use Rattle.fc_steps.specs.declared.stepping.Next.TheVariants.{Move as NextMove, 
 use Rattle.fc_steps.specs.declared.stepping.Steps.{Steps}
 use Rattle.fc_steps.specs.declared.stop.Stop.{Stop}
 use Rattle.fc_steps.proofs.UnderWay.{move_comes}
-use Rattle.law_crash.specs.Doing.{number_of, with_disks}
+use Rattle.law_crash.specs.Doing.{with_disks}
 use Rattle.law_crash.specs.Law.{Begins}
 use Rattle.law_crash.specs.Points.{Point}
-use Rattle.law_crash.proofs.Making.{spot_in}
 use Rattle.law_noted.specs.Came.{Came, own_done, steps_done}
 use Rattle.law_noted.specs.DataSteps.{Copies, DataLaw, IsInHand, IsNextStep, IsStepped, NeedsNoMark}
-use Rattle.law_noted.specs.Records.{record_after, record_by}
+use Rattle.law_noted.specs.Records.{kept_by, record_after, record_by}
 use Rattle.law_noted.proofs.DataEnds.{HasEnded}
-use Rattle.law_noted.proofs.DataInHand.{fits_here, same_new, same_old, slot}
+use Rattle.law_noted.proofs.DataInHand.{along_by, fits_here}
 use Rattle.law_noted.proofs.DataNext.{move_ended, own_ended}
-use Rattle.law_noted.proofs.Once.{once_of_tables}
 
 done_by : (o : Option Stop) (n : ℕ) → cond (is_some o) n (n + 1) ≡ n + own_done o (not (is_some o))
 done_by (Some stop) n = omega arith
@@ -45,9 +40,6 @@ none_done None = refl
 
 module _ (grain : GrainSize) (w : Whole) (least : List Row) (place : ℕ) (doing : Doing) (begun old : LaneView) (steps : List DiskStep) (before q : Point) (h : IsInHand grain w least place doing begun old steps before None q)
     (end : StepEnd) (new : LaneView) where
-  abbrev l : LaneOf
-  l = lane_at grain w place
-
   abbrev told : LaneTold
   told = part_at grain w place
 
@@ -57,15 +49,6 @@ module _ (grain : GrainSize) (w : Whole) (least : List Row) (place : ℕ) (doing
   abbrev r : Request
   r = request_of doing.steps.ask
 
-  abbrev g : ℕ
-  g = number_of grain (request_of doing.steps.ask)
-
-  abbrev spot : Spot
-  spot = spot_in grain w (request_of doing.steps.ask)
-
-  abbrev at : ℕ
-  at = slot grain w least place doing begun old steps before q h
-
   abbrev Ended : ℕ → Option Stop → Option MetaRecord → Type 0
   Ended n stop due = HasEnded grain w r before.kept.rows steps place before q old.grains new.grains n stop due
 
@@ -73,8 +56,6 @@ module _ (grain : GrainSize) (w : Whole) (least : List Row) (place : ℕ) (doing
 
   stepped : (after : Doing) (due : Option MetaRecord) → after.steps.ask ≡ s.ask → IsUnderWay begun after new → Ended (steps_done after.steps) after.steps.stop due → IsStepped grain w least place after begun old new steps before due q
   stepped after due ask_is u x =
-      let was = same_old grain w least place doing begun old steps before q h in
-      let is = same_new grain w least place doing begun old steps before q h after new u ask_is in
       record {
         disks = x.disks;
         in_hand = record {
@@ -88,19 +69,7 @@ module _ (grain : GrainSize) (w : Whole) (least : List Row) (place : ℕ) (doing
           under = u;
           came = subst (λ (a : Ask). Came grain w (request_of a) before.kept.rows steps before (steps_done after.steps) after.steps.stop due (with_disks x.disks q)) (sym ask_is) x.came;
         };
-        along = record {
-          count = x.count;
-          lanes_are = x.lanes_are;
-          same = x.same;
-          kinds = is.each ∙ sym was.each;
-          sizes = λ v. is.sizes v ∙ sym (was.sizes v);
-          pooled = is.pooled ∙ sym was.pooled;
-          aside = is.aside ∙ sym was.aside;
-          once = once_of_tables w.books.tables new.grains.volumes h.stands.sound.tables.volumes.rising
-              (is.each ∙ (h.told.parts.beside.same ∙ ap (map kind_of_told) (part_follows grain w place).volumes));
-          here = x.here;
-          others = x.others;
-        };
+        along = along_by grain w least place doing begun old steps before q h after new (kept_by due q.kept) x.disks u ask_is x.count x.lanes_are x.same x.here x.others;
       }
 
   by_next : (doing_new : Doing) → IsNextStep doing old end doing_new new → (z : Next) → next_of s ≡ z → z ≢ Over → Copies old s.place z → NeedsNoMark q.kept.rows s.grain z →

@@ -360,11 +360,4 @@ module _ (grain : GrainSize) (w : Whole) (least : List Row) (place : ℕ) (doing
 pub told_of : (lane after : ℕ) (doing : Doing) (entry : Entry) →
     entry ≡ steps_entry lane doing.number doing.actor (request_of doing.steps.ask) (done_of doing.steps.ask) doing.before after (take doing.steps.made doing.steps.planned.moves) doing.steps.calls doing.steps.stop →
     IsEntryOf doing entry
-told_of lane after doing entry e =
-    record {
-      request = ap (λ (z : Entry). z.request) e;
-      reply = ap (λ (z : Entry). z.reply) e;
-      moves = ap (λ (z : Entry). z.moves) e;
-      torn = ap (λ (z : Entry). z.torn) e;
-      no_effects = ap (λ (z : Entry). z.effects) e;
-    }
+told_of lane after doing entry e = subst (λ (z : Entry). IsEntryOf doing z) (sym e) record { request = refl; reply = refl; moves = refl; torn = refl; no_effects = refl }

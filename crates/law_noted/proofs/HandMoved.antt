@@ -20,14 +20,12 @@ use Rattle.fc_lane.specs.Doing.{HasCome, IsUnderWay}
 use Rattle.fc_lane.specs.Lane.{LaneView, of}
 use Rattle.fc_lane.specs.declared.doing.Doing.{Doing}
 use Rattle.fc_legal.specs.Whole.{Whole, lane_at, lane_of_grain, part_at}
-use Rattle.fc_parts.proofs.Decisions.{part_follows}
 use Rattle.fc_pictures.specs.Law.{StoredAt, now_of}
 use Rattle.fc_rules.specs.LaneTold.{LaneOf, LaneTold, number_at, place_of}
 use Rattle.fc_rules.specs.Shows.{Stored}
 use Rattle.fc_rules.specs.Spot.{Spot}
 use Rattle.fc_rules.specs.Steps.{DiskStep, calls_of_steps, moves_of, step_of_move}
 use Rattle.fc_steps.specs.Asking.{request_of}
-use Rattle.fc_steps.specs.Standing.{kind_of_told}
 use Rattle.fc_steps.specs.StepsEnd.{StepsEnd, StoppedIn}
 use Rattle.fc_steps.specs.UnderWay.{MoveStored, MoveStores, StepsCame, after_step, next_of, spot_asked, steps_asked}
 use Rattle.fc_steps.specs.declared.body.StepEnd.{StepEnd}
@@ -51,7 +49,7 @@ use Rattle.law_noted.specs.DataSteps.{Along, GoAlong, IsInHand, IsNextStep, copi
 use Rattle.law_noted.proofs.Along.{along_torn}
 use Rattle.law_noted.proofs.DataActions.{did_lost}
 use Rattle.law_noted.proofs.DataCame.{before_move}
-use Rattle.law_noted.proofs.DataInHand.{come, disked_before, fits_here, lane_is_of, lost_before, made_so, place_is, same_new, same_old, slot, steps_are, way}
+use Rattle.law_noted.proofs.DataInHand.{along_by, come, disked_before, fits_here, lane_is_of, lost_before, made_so, place_is, slot, steps_are, way}
 use Rattle.law_noted.proofs.DataMoves.{stored_as}
 use Rattle.law_noted.proofs.Finding.{came_disked}
 use Rattle.law_noted.proofs.HandNext.{IsAlone, alone}
@@ -59,7 +57,6 @@ use Rattle.law_noted.proofs.HandOn.{put_alone}
 use Rattle.law_noted.proofs.Losing.{uncopied_more}
 use Rattle.law_noted.proofs.NextSteps.{MadeAt, move_reads}
 use Rattle.law_noted.proofs.Nexts.{AreMoving, front_moves, head_is, none_left, same_front}
-use Rattle.law_noted.proofs.Once.{once_of_tables}
 use Rattle.law_noted.proofs.Parts.{moves_first}
 use Rattle.law_noted.proofs.Places.{spot_all, steps_split}
 use Rattle.law_noted.proofs.Recording.{all_same}
@@ -261,21 +258,8 @@ module _ (grain : GrainSize) (w : Whole) (least : List Row) (place : ℕ) (doing
 
   pub goes_along : GoAlong grain w place q.kept (kept_after q.kept (uncopied m)) old.grains new.grains q.disks q.disks
   goes_along =
-      let was = same_old grain w least place doing begun old steps before q h in
-      let is = same_new grain w least place doing begun old steps before q h after new u refl in
-      record {
-        count = refl;
-        lanes_are = disked.count;
-        same = λ i. all_same (disks_at q.disks i);
-        kinds = is.each ∙ sym was.each;
-        sizes = λ v. is.sizes v ∙ sym (was.sizes v);
-        pooled = is.pooled ∙ sym was.pooled;
-        aside = is.aside ∙ sym was.aside;
-        once = once_of_tables w.books.tables new.grains.volumes h.stands.sound.tables.volumes.rising
-            (is.each ∙ (h.told.parts.beside.same ∙ ap (map kind_of_told) (part_follows grain w place).volumes));
-        here = here_along;
-        others = λ i still il ne. still_others i still;
-      }
+      along_by grain w least place doing begun old steps before q h after new (kept_after q.kept (uncopied m)) q.disks u refl refl disked.count (λ i. all_same (disks_at q.disks i)) here_along
+      (λ i still il ne. still_others i still)
 
   -- ---- it is in hand
 

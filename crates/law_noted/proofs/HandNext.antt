@@ -16,7 +16,7 @@ use Rattle.fc_legal.specs.Whole.{Whole, lane_at, part_at}
 use Rattle.fc_parts.proofs.Numbers.{all_place}
 use Rattle.fc_pictures.specs.Law.{now_of}
 use Rattle.fc_pictures.proofs.Fitting.{read_is}
-use Rattle.fc_rules.specs.LaneTold.{LaneOf, LaneTold}
+use Rattle.fc_rules.specs.LaneTold.{LaneTold}
 use Rattle.fc_rules.specs.Spot.{Spot}
 use Rattle.fc_rules.specs.Steps.{DiskStep, calls_of_steps, own_step, step_of_move}
 use Rattle.fc_sheets.proofs.Finding.{live_place_at}
@@ -43,9 +43,6 @@ or_true true = refl
 or_true false = refl
 
 module _ (grain : GrainSize) (w : Whole) (least : List Row) (place : ℕ) (doing : Doing) (begun old : LaneView) (steps : List DiskStep) (before q : Point) (h : IsInHand grain w least place doing begun old steps before None q) where
-  abbrev l : LaneOf
-  l = lane_at grain w place
-
   abbrev told : LaneTold
   told = part_at grain w place
 
@@ -88,7 +85,7 @@ module _ (grain : GrainSize) (w : Whole) (least : List Row) (place : ℕ) (doing
       let slots : List Slot = old.chains.sheet.slots in
       let b : MadeAt spot told (slot grain w least place doing begun old steps before q h) s (m ∷ drop (s.made + 1) s.planned.moves) old.chains old.grains =
       made_so grain w least place doing begun old steps before q h (m ∷ drop (s.made + 1) s.planned.moves) c.stop_is c.written_is c.left in
-      let can = way_can l told (slot grain w least place doing begun old steps before q h) begun.chains begun.grains s old.chains old.grains (way grain w least place doing begun old steps before q h) m c in
+      let can = way_can (lane_at grain w place) told (slot grain w least place doing begun old steps before q h) begun.chains begun.grains s old.chains old.grains (way grain w least place doing begun old steps before q h) m c in
       let x = read_is old.chains.sheet told.picture (stored old.grains.volumes) can.0 s.place b.stands.sound b.stands.shows can.1.safe.there can.1.safe.is_live can.1.inside in
       let read : lost_for old s.place (birth_place slots m.slot.0) ≡ true = sym (ap (λ (z : Bool). cond z true (lost_for old s.place (birth_place slots m.slot.0))) out) ∙ copies in
       ap (λ (v : ℕ). is_lost (now_of told.picture v s.place)) can.1.volume

@@ -10,7 +10,7 @@ use Rattle.fc_changed.specs.Notes.{has}
 use Rattle.fc_entry.specs.Picture.{Bytes}
 use Rattle.fc_image.specs.declared.record.MetaRecord.{MetaRecord}
 use Rattle.fc_image.specs.declared.record.MetaRecord.TheVariants.{Pair, Written, Torn}
-use Rattle.fc_kept.specs.Disks.{NamedDisk, disk_of, is_of, on_disk}
+use Rattle.fc_kept.specs.Disks.{NamedDisk, disk_of, is_of, on_disk, is_free, is_kind}
 use Rattle.fc_kept.specs.Kept.{Kept, LostGrains, is_lost_in, kept_after, lost_kept, lost_put}
 use Rattle.fc_kept.specs.Recoverable.{disks_at}
 use Rattle.fc_legal.specs.Whole.{Whole, lane_at, lanes}
@@ -18,7 +18,6 @@ use Rattle.fc_parts.proofs.Numbers.{number_is_of, place_of_number}
 use Rattle.fc_rules.specs.LaneTold.{LaneOf, number_at, place_of}
 use Rattle.law_agreeing.specs.Agreeing.{Agree, AllAgree, SameSize}
 use Rattle.law_crash.specs.Doing.{IsWritten, SameDisk}
-use Rattle.law_crash.specs.Leaving.{is_free, is_kind}
 use Rattle.law_crash.specs.Points.{on_disks}
 use Rattle.law_crash.proofs.Disks.{find_by, same_name}
 use Rattle.law_noted.specs.Advancing.{mark_at, uncopied}

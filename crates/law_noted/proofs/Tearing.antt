@@ -78,6 +78,16 @@ fill_fails grain w m number (Some k) steps entry e are f =
     let spot : Spot = spot_of grain w number in
     subst (λ (reply : Reply). FillAnswers spot m k entry reply) (sym e) (subst (λ (z : List DiskStep). HasFailed spot z entry) are f)
 
+-- so is the access of a step of a fill
+fill_access : (grain : GrainSize) (w : Whole) (r : Request) (m : ℕ) (o : Option ℕ) (steps front back : List DiskStep) (step : DiskStep) (torn : Torn) →
+    (MappingFill (single_lane grain) (as_one w) m (number_of grain r) o (failed grain w r front step torn) → LaneAnswers (single_lane grain) (as_one w) r (failed grain w r front step torn)) →
+    AreFillSteps (spot_of grain w (number_of grain r)) o steps → steps ≡ front ++ step ∷ back → 1 ≤ step.calls → torn ≡ torn_of grain r step →
+    AccessStep grain w (number_of grain r) (failed grain w r front step torn) (after_access grain w (lane_of_grain w (number_of grain r)) (failed grain w r front step torn))
+fill_access grain w r m o steps front back step torn answers are split some is =
+    let spot : Spot = spot_of grain w (number_of grain r) in
+    let fails : HasFailed spot steps (failed grain w r front step torn) = has_failed grain w r spot steps front back step torn refl split some is in
+    access grain w r front step torn (answers (fill_fails grain w m (number_of grain r) o steps (failed grain w r front step torn) refl are fails))
+
 abbrev Comes : GrainSize → Whole → Request → List DiskStep → DiskStep → Torn → Type 0
 Comes grain w r front step torn =
     Step grain w (failed grain w r front step torn) (after_access grain w (lane_of_grain w (number_of grain r)) (failed grain w r front step torn))
@@ -96,21 +106,9 @@ comes grain w (Write part) steps front back step torn inside are split some is =
     (o.writable, subst (λ (z : List DiskStep). HasFailed (spot_of grain w (number_of grain r)) z entry) o.steps_are fails)) in
     record { number = refl; right = (inside, access grain w r front step torn answers) }
 comes grain w (Copy m g) steps front back step torn inside are split some is =
-    let r : Request = Copy m g in
-    let entry : Entry = failed grain w r front step torn in
-    let fails : HasFailed (spot_of grain w g.0) steps entry = has_failed grain w r (spot_of grain w g.0) steps front back step torn refl split some is in
-    record {
-      number = refl;
-      right = access grain w r front step torn (fill_fails grain w m.0 g.0 (copied_slot w.books.sheet.slots m.0 (place_of (single_lane grain) g.0)) steps entry refl are fails);
-    }
+    record { number = refl; right = fill_access grain w (Copy m g) m.0 (copied_slot w.books.sheet.slots m.0 (place_of (single_lane grain) g.0)) steps front back step torn (λ fill. fill) are split some is }
 comes grain w (Clean m g) steps front back step torn inside are split some is =
-    let r : Request = Clean m g in
-    let entry : Entry = failed grain w r front step torn in
-    let fails : HasFailed (spot_of grain w g.0) steps entry = has_failed grain w r (spot_of grain w g.0) steps front back step torn refl split some is in
-    record {
-      number = refl;
-      right = access grain w r front step torn (fill_fails grain w m.0 g.0 (cleaned_slot w.books.sheet.slots m.0 (place_of (single_lane grain) g.0)) steps entry refl are fails);
-    }
+    record { number = refl; right = fill_access grain w (Clean m g) m.0 (cleaned_slot w.books.sheet.slots m.0 (place_of (single_lane grain) g.0)) steps front back step torn (λ fill. fill) are split some is }
 comes grain w r steps front back step torn inside are split some is = absurd are
 
 none_done : (r : Request) → done_write r DiskFault ≡ None

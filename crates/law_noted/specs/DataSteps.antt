@@ -1,5 +1,5 @@
 -- What a step of data does to the disks that a lane stands for.
-use Rattle.std.specs.Prelude.{◌≡◌, ◌≢◌, ◌⊎◌, ℕ, ◌<◌, Bool, true, false, cond, List, length, map, Contains, Option, Some, None}
+use Rattle.std.specs.Prelude.{◌≡◌, ◌≢◌, ℕ, ◌<◌, Bool, true, false, cond, List, length, map, Contains, Option, Some, None}
 use Rattle.std.specs.List.{AllZip, list_any}
 use Rattle.fc_base.specs.Column.{holder}
 use Rattle.fc_base.specs.Sheet.{birth_place, column, slot_at}
@@ -13,15 +13,15 @@ use Rattle.fc_grains.specs.Grains.{GrainsState}
 use Rattle.fc_grains.specs.Volumes.{VolumeGrains, stored, volume_of}
 use Rattle.fc_image.specs.declared.record.MetaRecord.{MetaRecord}
 use Rattle.fc_kept.specs.Actions.{is_unmarked}
-use Rattle.fc_kept.specs.Disks.{NamedDisk, disk_of, on_disk}
-use Rattle.fc_kept.specs.Kept.{Kept, is_lost_in}
+use Rattle.fc_kept.specs.Disks.{NamedDisk}
+use Rattle.fc_kept.specs.Kept.{Kept}
 use Rattle.fc_kept.specs.Recoverable.{disks_at}
 use Rattle.fc_lane.specs.Doing.{FitsAsk, IsUnderWay}
 use Rattle.fc_lane.specs.Lane.{LaneView, IsLaneOf, of}
 use Rattle.fc_lane.specs.declared.doing.Doing.{Doing}
 use Rattle.fc_legal.specs.Stands.{Stands}
 use Rattle.fc_legal.specs.Whole.{Whole, lane_at, lanes, part_at}
-use Rattle.fc_rules.specs.LaneTold.{LaneOf, LaneTold, number_at}
+use Rattle.fc_rules.specs.LaneTold.{LaneOf, LaneTold}
 use Rattle.fc_rules.specs.Steps.{DiskStep}
 use Rattle.fc_steps.specs.Asking.{request_of}
 use Rattle.fc_steps.specs.Standing.{kind_of_grains}
@@ -29,6 +29,7 @@ use Rattle.fc_steps.specs.UnderWay.{MoveStored, OwnStored, after_step, next_of}
 use Rattle.fc_steps.specs.declared.body.StepEnd.{StepEnd}
 use Rattle.fc_steps.specs.declared.stepping.Next.{Next}
 use Rattle.fc_steps.specs.declared.stepping.Next.TheVariants.{Move as NextMove, Own, Over}
+use Rattle.fc_held.specs.Held.{GoesAlong}
 use Rattle.law_crash.specs.Doing.{SameDisk, with_disks}
 use Rattle.law_crash.specs.Law.{Begins}
 use Rattle.law_crash.specs.Leaving.{HaveTheirDisks}
@@ -89,11 +90,7 @@ NeedsNoMark rows grain next = Unit {0}
 
 -- What isn't lost by metadata any more is what it was, here and there; or the disks have what the lane holds.
 abbrev pub Along : LaneOf → (k_old k_new : Kept) → (old new : GrainsState) → (ds_old ds_new : List NamedDisk) → Type 0
-Along l k_old k_new old new ds_old ds_new =
-    (v y : ℕ) → is_lost_in k_new.lost v (number_at l y) ≡ false →
-    ((is_lost_in k_old.lost v (number_at l y) ≡ false)
-    × (on_disk l (disk_of ds_new v) y ≡ on_disk l (disk_of ds_old v) y) × (stored new.volumes v y ≡ stored old.volumes v y))
-    ⊎ (stored new.volumes v y ≡ on_disk l (disk_of ds_new v) y)
+Along l k_old k_new old new ds_old ds_new = GoesAlong l k_old k_new old new ds_old ds_new
 
 -- In the lane at a place the disks go along with its grains, and in all others with what isn't changed there. Names, kinds and sizes
 -- stay, and so do the disks that no volume has.

@@ -1,18 +1,12 @@
 use Rattle.std.proofs.Common.{◌∙◌, List, length, get_or, set, ap, sym}
 use Rattle.std.specs.Prelude.{is_err}
 use Rattle.fc_kept.specs.Disks.{NamedDisk}
-use Rattle.fc_recovered.proofs.Placing.{its_grain, its_size, its_read, never_none}
+use Rattle.fc_recovered.proofs.Placing.{its_grain, its_read, never_none}
 use Rattle.fc_recovered.proofs.lane_disks.LaneDisks.read.Goals as goal
 
-pub read-requires-clause-in_range : goal.read-requires-clause-in_range
-read-requires-clause-in_range g c =
+pub read-requires : goal.read-requires
+read-requires g c =
     its_grain c.args.self.now c.args.volume.0 c.args.place (length c.args.out.now) c.in-Some.at c.index_mut.result.now c.requires
-    (sym c.in-Some.is ∙ c.place_of.ensures)
-    (c.index_mut.ensures.value ∙ ap (λ (z : List NamedDisk). get_or z c.in-Some.at c.index_mut.result.now) c.self.view_is)
-
-pub read-requires-clause-whole : goal.read-requires-clause-whole
-read-requires-clause-whole g c =
-    its_size c.args.self.now c.args.volume.0 c.args.place (length c.args.out.now) c.in-Some.at c.index_mut.result.now c.requires
     (sym c.in-Some.is ∙ c.place_of.ensures)
     (c.index_mut.ensures.value ∙ ap (λ (z : List NamedDisk). get_or z c.in-Some.at c.index_mut.result.now) c.self.view_is)
 
