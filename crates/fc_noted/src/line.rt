@@ -1,21 +1,27 @@
 //! A line answered, step by step.
 
-ghost use Rattle.std.specs.Prelude.{◌≡◌, ◌≤◌, ◌∷◌, [], ℕ, List, Ok, OnErr, OnOk, length, true, false};
+ghost use Rattle.std.specs.Prelude.{◌≡◌, ◌≤◌, ◌∷◌, [], ℕ, List, Ok, Err, OnErr, OnOk, length, true, false};
 ghost use Rattle.fc_agenda.specs.Goes.{GoesToEnd};
 ghost use Rattle.fc_blocks.specs.Segments.{single};
 ghost use Rattle.fc_changed.specs.Row.{Row};
 ghost use Rattle.fc_legal.specs.Added.{Adds};
-ghost use Rattle.fc_legal.specs.Agenda.{Reading, Session, session_rules};
+ghost use Rattle.fc_entry.specs.HistoryState.{HistoryState};
+ghost use Rattle.fc_legal.specs.Agenda.{Reading, Session, line_read, session_rules};
 ghost use Rattle.fc_legal.specs.Whole.{Whole};
 ghost use Rattle.fc_noted.specs.Noted.{IsNotedAt};
+ghost use Rattle.fc_script.specs.Passage.{GoesOn};
+ghost use Rattle.fc_script.specs.Script.{agenda_of};
+ghost use Rattle.fc_stands.specs.Store.{StandsFor};
 ghost use Rattle.fc_store.specs.Answering.{IsStoreLine};
 
 use crate::noted::Noted;
 use fc_base::command::Line;
+use fc_base::fault::WordFault;
 use fc_entry::history::History;
 use fc_marks::NotedStop;
 use fc_mdisk::mdisk::Mdisk;
 use fc_metadisk::MetaDisk;
+use fc_script::script::Script;
 
 impl<D: Mdisk, M: MetaDisk> Noted<D, M> {
     /// Answers a line as `Store::run_line` does, step by step. Behind an error, only the disks are of use.
@@ -32,6 +38,39 @@ impl<D: Mdisk, M: MetaDisk> Noted<D, M> {
         ensures limit { length history.new.entries ≤ 262144 }
     {
         self.begin_line(line);
+        'steps: loop {
+            match self.make_step(history) {
+                Ok(true) => {}
+                Ok(false) => return Ok(()),
+                Err(stop) => return Err(stop),
+            }
+        }
+    }
+
+    /// Takes up a line with this fault in its words, which `make_step` then tells. Nothing may be left of the line before.
+    pub fn begin_unread(&mut self, fault: WordFault)
+        requires at { (history : HistoryState) × (w : Whole) × (least : List Row) × IsNotedAt M.seen M.may_leave self.old history w least }
+        ensures line { (w : Whole) → StandsFor self.old.store w →
+            GoesOn self.old.store.control.grain w (line_read self.old.store.control.grain w (Err fault) []) (agenda_of self.old.store.control.grain self.new.script) }
+        ensures at { (history : HistoryState) (w : Whole) (least : List Row) → IsNotedAt M.seen M.may_leave self.old history w least → IsNotedAt M.seen M.may_leave self.new history w least }
+        ensures others { self.new ≡ record self.old { script = self.new.script } }
+    {
+        self.script = Script::Unread(fault);
+    }
+
+    /// Tells of a line that it has this fault in its words: one entry. Behind an error, only the disks are of use.
+    pub fn run_unread(&mut self, fault: WordFault, history: &mut History) -> Result<(), NotedStop>
+        requires at { (w : Whole) × (least : List Row) × IsNotedAt M.seen M.may_leave self.old history.old w least }
+        requires live { self.old.live ≡ true }
+        requires room { length history.old.entries ≤ 262144 }
+        ensures answered { OnOk result ((read : Reading) (bytes : List ℕ) (w : Whole) (least : List Row) → read w.books bytes ≡ Err fault → IsNotedAt M.seen M.may_leave self.old history.old w least →
+            (next : Whole) × (least_next : List Row) × IsNotedAt M.seen M.may_leave self.new history.new next least_next
+            × Adds history.old history.new (λ more. GoesToEnd (session_rules self.old.store.control.grain read) (Session (single bytes ∷ [])) w more next)) }
+        ensures live { OnOk result (self.new.live ≡ true) }
+        ensures stopped { OnErr result (self.new.live ≡ false) }
+        ensures limit { length history.new.entries ≤ 262144 }
+    {
+        self.begin_unread(fault);
         'steps: loop {
             match self.make_step(history) {
                 Ok(true) => {}

@@ -84,13 +84,34 @@ impl<D: Mdisk, M: MetaDisk> Noted<D, M> {
         ensures any_moment { LeavesOnly M.moment M.left_since disk (opened_meta result) LeavesNothingYet }
     {
         let count = disks.len();
-        let store = match Store::new(alloc, grain, disks) {
-            Ok(store) => store,
-            Err(NoMemory) => return Err((disk, NotedStop::NoMemory)),
-        };
+        match Store::new(alloc, grain, disks) {
+            Ok(store) => match Noted::over(alloc, store, count, disk) {
+                Ok(noted) => Ok(noted),
+                Err((_, disk, stop)) => Err((disk, stop)),
+            },
+            Err(NoMemory) => Err((disk, NotedStop::NoMemory)),
+        }
+    }
+
+    /// A noted store over a store without volumes, of so many disks in all, and over a disk of zeros for its metadata, on which the
+    /// first image is written. Refused, the store comes back, and the disk of metadata, which stands for no image or for the first one.
+    pub fn over(
+        alloc: Global,
+        store: Store<D>,
+        count: usize,
+        disk: M,
+    ) -> Result<Noted<D, M>, (Store<D>, M, NotedStop)>
+        requires stands { (disks : List DiskState) × StandsFor store (opened (pools_dealt LANES disks)) × AreFresh count disks store }
+        requires zeros { M.seen disk ≡ replicate (length (M.seen disk)) 0 }
+        requires synced { Only (M.seen disk) (M.may_leave disk) }
+        ensures noted { IfOk result (λ n. (disks : List DiskState) → AreFresh count disks store → IsNotedAt M.seen M.may_leave n NoHistory (opened (pools_dealt LANES disks)) []) }
+        ensures live { IfOk result (λ n. n.live ≡ true) }
+        ensures any_moment { LeavesOnly M.moment M.left_since disk (over_meta result) LeavesNothingYet }
+        ensures back { IfErr result (λ e. e.0 ≡ store) }
+    {
         let image = match image_of(alloc, store.control(), store.all_lanes()) {
             Ok(image) => image,
-            Err(NoMemory) => return Err((disk, NotedStop::NoMemory)),
+            Err(NoMemory) => return Err((store, disk, NotedStop::NoMemory)),
         };
         match Meta::open(alloc, disk, &image) {
             Ok(meta) => Ok(Noted {
@@ -104,7 +125,7 @@ impl<D: Mdisk, M: MetaDisk> Noted<D, M> {
                 under_way: None,
                 live: true,
             }),
-            Err((disk, error)) => Err((disk, stop_of(error))),
+            Err((disk, error)) => Err((store, disk, stop_of(error))),
         }
     }
 
@@ -118,6 +139,13 @@ impl<D: Mdisk, M: MetaDisk> Noted<D, M> {
         ensures others { self.new ≡ record self.old { script = self.new.script } }
     {
         self.script = Script::of_line(&self.store, line);
+    }
+
+    /// The store.
+    pub fn store(&self) -> &Store<D>
+        ensures { result.now ≡ self.now.store }
+    {
+        &self.store
     }
 
     /// Whether steps may be made: no error came yet.
