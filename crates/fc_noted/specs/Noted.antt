@@ -1,12 +1,14 @@
 -- When a noted store stands for a history.
-use Rattle.std.specs.Prelude.{◌≡◌, ◌⊎◌, ℕ, ◌<◌, ◌≤◌, Bool, true, false, List, [], ◌∷◌, ◌++◌, codes, length, slice_set, Option, Some, None}
+use Rattle.std.specs.Prelude.{◌≡◌, ◌⊎◌, ℕ, ◌<◌, ◌≤◌, ◌^◌, All, Bool, true, false, List, [], ◌∷◌, ◌++◌, codes, length, slice_set, Option, Some, None}
 use Rattle.fc_base.specs.Pools.{Pool}
+use Rattle.fc_base.specs.declared.limits.TheConstants.{LANES}
 use Rattle.fc_base.specs.declared.size.GrainSize.{GrainSize}
 use Rattle.fc_changed.specs.Row.{Row}
 use Rattle.fc_entry.specs.HistoryState.{HistoryState}
 use Rattle.fc_entry.specs.declared.entry.Entry.{Entry}
 use Rattle.fc_format.specs.Halves.{Image}
 use Rattle.fc_format.specs.Ranges.{HasGoodIds}
+use Rattle.fc_grains.specs.Grains.{pool_of}
 use Rattle.fc_image.specs.declared.image.MetaImage.{MetaImage}
 use Rattle.fc_image.specs.declared.record.MetaRecord.{MetaRecord}
 use Rattle.fc_kept.specs.Disks.{NamedDisk}
@@ -15,9 +17,11 @@ use Rattle.fc_kept.specs.Kept.{Kept, kept_after}
 use Rattle.fc_kept.specs.Prefix.{AreStepsOf}
 use Rattle.fc_kept.specs.Sound.{IsSoundImage}
 use Rattle.fc_lane.specs.Doing.{IsUnderWay}
+use Rattle.fc_lanes.specs.Dealing.{disks_in, pools_dealt}
 use Rattle.fc_legal.specs.Added.{IsTold}
 use Rattle.fc_legal.specs.Agenda.{Asks}
 use Rattle.fc_legal.specs.Whole.{Whole, opened}
+use Rattle.fc_mdisk.specs.Disk.{DiskState, IsFresh}
 use Rattle.fc_meta.specs.States.{IsResting, found}
 use Rattle.fc_meta.specs.declared.meta.Meta.{Meta}
 use Rattle.fc_parts.specs.Law.{IsInVolume}
@@ -41,6 +45,14 @@ use Rattle.fc_noted.specs.declared.noted.UnderWay.{UnderWay}
 -- The history of `main` alone, without entries.
 abbrev pub NoHistory : HistoryState
 NoHistory = record { actors = codes "main" ∷ []; entries = [] }
+
+-- A store without volumes, over these fresh disks, so many in all.
+pub record BeginsOver (count : ℕ) (disks : List DiskState) (s : StoreView) : Type 0 where
+  pub counted : length disks ≡ count
+  pub few : count < 2 ^ 30
+  pub fresh : All IsFresh disks
+  pub stands : StandsFor s (opened (pools_dealt LANES disks))
+  pub disks_are : disks_in s.lanes ≡ pool_of disks
 
 -- A history's entries were done on what stood on the disks at first, and led to a point.
 pub record HasRun (grain : GrainSize) (entries : List Entry) (w : Whole) (least : List Row) (p : Point) : Type 0 where

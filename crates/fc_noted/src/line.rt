@@ -1,6 +1,6 @@
 //! A line answered, step by step.
 
-ghost use Rattle.std.specs.Prelude.{◌≡◌, ◌≤◌, ◌∷◌, [], ℕ, List, Ok, Err, OnErr, OnOk, length, true, false};
+ghost use Rattle.std.specs.Prelude.{◌≡◌, ◌≤◌, ◌∷◌, [], ℕ, IfErr, List, Ok, Err, OnErr, OnOk, length, true, false};
 ghost use Rattle.fc_agenda.specs.Goes.{GoesToEnd};
 ghost use Rattle.fc_blocks.specs.Segments.{single};
 ghost use Rattle.fc_changed.specs.Row.{Row};
@@ -9,6 +9,7 @@ ghost use Rattle.fc_entry.specs.HistoryState.{HistoryState};
 ghost use Rattle.fc_legal.specs.Agenda.{Reading, Session, line_read, session_rules};
 ghost use Rattle.fc_legal.specs.Whole.{Whole};
 ghost use Rattle.fc_noted.specs.Noted.{IsNotedAt};
+ghost use Rattle.fc_noted.specs.Stopping.{LineHalts};
 ghost use Rattle.fc_script.specs.Passage.{GoesOn};
 ghost use Rattle.fc_script.specs.Script.{agenda_of};
 ghost use Rattle.fc_stands.specs.Store.{StandsFor};
@@ -33,6 +34,8 @@ impl<D: Mdisk, M: MetaDisk> Noted<D, M> {
         ensures answered { OnOk result ((read : Reading) (bytes : List ℕ) (w : Whole) (least : List Row) → read w.books bytes ≡ Ok line → IsNotedAt M.seen M.may_leave self.old history.old w least →
             (next : Whole) × (least_next : List Row) × IsNotedAt M.seen M.may_leave self.new history.new next least_next
             × Adds history.old history.new (λ more. GoesToEnd (session_rules self.old.store.control.grain read) (Session (single bytes ∷ [])) w more next)) }
+        ensures halted { IfErr result (λ stop. (read : Reading) (bytes : List ℕ) (w : Whole) (least : List Row) → read w.books bytes ≡ Ok line → IsNotedAt M.seen M.may_leave self.old history.old w least →
+            LineHalts M.may_leave read stop self.old self.new bytes w history.old history.new) }
         ensures live { OnOk result (self.new.live ≡ true) }
         ensures stopped { OnErr result (self.new.live ≡ false) }
         ensures limit { length history.new.entries ≤ 262144 }
@@ -66,6 +69,8 @@ impl<D: Mdisk, M: MetaDisk> Noted<D, M> {
         ensures answered { OnOk result ((read : Reading) (bytes : List ℕ) (w : Whole) (least : List Row) → read w.books bytes ≡ Err fault → IsNotedAt M.seen M.may_leave self.old history.old w least →
             (next : Whole) × (least_next : List Row) × IsNotedAt M.seen M.may_leave self.new history.new next least_next
             × Adds history.old history.new (λ more. GoesToEnd (session_rules self.old.store.control.grain read) (Session (single bytes ∷ [])) w more next)) }
+        ensures halted { IfErr result (λ stop. (read : Reading) (bytes : List ℕ) (w : Whole) (least : List Row) → read w.books bytes ≡ Err fault → IsNotedAt M.seen M.may_leave self.old history.old w least →
+            LineHalts M.may_leave read stop self.old self.new bytes w history.old history.new) }
         ensures live { OnOk result (self.new.live ≡ true) }
         ensures stopped { OnErr result (self.new.live ≡ false) }
         ensures limit { length history.new.entries ≤ 262144 }

@@ -4,14 +4,14 @@ ghost use Rattle.std.specs.Prelude.{◌≡◌, ◌<◌, ◌^◌, [], IfErr, IfOk
 ghost use Rattle.std.specs.List.{All};
 ghost use Rattle.fc_changed.specs.Row.{Row};
 ghost use Rattle.fc_entry.specs.HistoryState.{HistoryState};
-ghost use Rattle.fc_lanes.specs.Dealing.{pools_dealt};
+ghost use Rattle.fc_lanes.specs.Dealing.{disks_in, pools_dealt};
 ghost use Rattle.fc_legal.specs.Agenda.{line_read};
 ghost use Rattle.fc_legal.specs.Whole.{Whole, opened};
-ghost use Rattle.fc_mdisk.specs.Disk.{IsFresh};
+ghost use Rattle.fc_mdisk.specs.Disk.{DiskState, IsFresh};
 ghost use Rattle.fc_metadisk.specs.Disk.{LeavesOnly, Only};
 ghost use Rattle.fc_held.specs.Held.{HaveVolumes, HoldAllOf};
-ghost use Rattle.fc_noted.specs.Noted.{IsNotedAt, NoHistory};
-ghost use Rattle.fc_noted.specs.Stopping.{LeavesNothingYet, opened_meta};
+ghost use Rattle.fc_noted.specs.Noted.{BeginsOver, IsNotedAt, NoHistory};
+ghost use Rattle.fc_noted.specs.Stopping.{LeavesFirst, LeavesNothingYet, opened_meta, over_meta};
 ghost use Rattle.fc_script.specs.Passage.{GoesOn};
 ghost use Rattle.fc_script.specs.Script.{agenda_of};
 ghost use Rattle.fc_stands.specs.Store.{StandsFor};
@@ -101,12 +101,13 @@ impl<D: Mdisk, M: MetaDisk> Noted<D, M> {
         count: usize,
         disk: M,
     ) -> Result<Noted<D, M>, (Store<D>, M, NotedStop)>
-        requires stands { (disks : List DiskState) × StandsFor store (opened (pools_dealt LANES disks)) × AreFresh count disks store }
+        requires begins { (disks : List DiskState) × BeginsOver count disks store }
         requires zeros { M.seen disk ≡ replicate (length (M.seen disk)) 0 }
         requires synced { Only (M.seen disk) (M.may_leave disk) }
-        ensures noted { IfOk result (λ n. (disks : List DiskState) → AreFresh count disks store → IsNotedAt M.seen M.may_leave n NoHistory (opened (pools_dealt LANES disks)) []) }
+        ensures noted { IfOk result (λ n. (disks : List DiskState) → BeginsOver count disks store → IsNotedAt M.seen M.may_leave n NoHistory (opened (pools_dealt LANES disks)) []) }
+        ensures disks { IfOk result (λ n. disks_in n.store.lanes ≡ disks_in store.lanes) }
         ensures live { IfOk result (λ n. n.live ≡ true) }
-        ensures any_moment { LeavesOnly M.moment M.left_since disk (over_meta result) LeavesNothingYet }
+        ensures any_moment { LeavesOnly M.moment M.left_since disk (over_meta result) LeavesFirst }
         ensures back { IfErr result (λ e. e.0 ≡ store) }
     {
         let image = match image_of(alloc, store.control(), store.all_lanes()) {

@@ -1,6 +1,10 @@
 -- How lines are read here, what is written, and how a call ends.
 pub mod Reading
-pub mod Text
-pub mod Recovering
 pub mod Lines
+pub mod Text
+pub mod Far
+pub mod Adding
+pub mod Recovering
+pub mod Putting
+pub mod Ending
 pub mod Stopped

@@ -1,27 +1,23 @@
 -- A noted store that answers the lines of a session: what it stands for after some of them.
-use Rattle.std.specs.Prelude.{◌≡◌, ◌⊎◌, ℕ, true, false, List, Option, Some, None}
-use Rattle.fc_base.specs.declared.request.Request.{Request}
+use Rattle.std.specs.Prelude.{◌≡◌, ℕ, true, false, List, [], ◌∷◌, map, Option, Some, None, Result, Ok, Err}
+use Rattle.fc_agenda.specs.Goes.{GoesToEnd}
 use Rattle.fc_base.specs.declared.size.GrainSize.{GrainSize}
 use Rattle.fc_blocks.specs.Segments.{single}
 use Rattle.fc_changed.specs.Row.{Row}
 use Rattle.fc_entry.specs.HistoryState.{HistoryState}
-use Rattle.fc_held.specs.Held.{HaveVolumes, HoldAllOf}
-use Rattle.fc_format.specs.Halves.{Image, recovered}
-use Rattle.fc_image.specs.declared.image.MetaImage.{MetaImage}
-use Rattle.fc_kept.specs.Disks.{NamedDisk}
-use Rattle.fc_kept.specs.Images.{kept_in}
-use Rattle.fc_kept.specs.OneGrain.{Another}
-use Rattle.fc_kept.specs.Recoverable.{Recoverable}
-use Rattle.fc_legal.specs.Added.{IsOf}
+use Rattle.fc_entry.specs.declared.stop.Stop.{Stop}
+use Rattle.fc_entry.specs.declared.stop.Stop.TheVariants.{LogFull as LogIsFull, NoMemory as WantsMemory}
+use Rattle.fc_legal.specs.Added.{Adds, IsOf}
+use Rattle.fc_legal.specs.Agenda.{Session, session_rules}
 use Rattle.fc_legal.specs.Run.{IsPartialRun, IsRun, WantsMore}
 use Rattle.fc_legal.specs.Whole.{Whole}
 use Rattle.fc_marks.specs.declared.error.NotedStop.{NotedStop}
 use Rattle.fc_marks.specs.declared.error.NotedStop.TheVariants.{LogFull, MetaFailed, MetaFull, NoMemory}
 use Rattle.fc_noted.specs.Noted.{IsNotedAt}
+use Rattle.fc_noted.specs.Stopping.{Leaves, LineHalts}
 use Rattle.fc_noted.specs.declared.noted.Noted.{Noted}
 use Rattle.fc_run.specs.Runs.{Runs}
 use Rattle.fc_stopped.specs.Reading.{reading}
-use Rattle.std.specs.Prelude.{map}
 
 -- What stood before the first line.
 pub record Start : Type 0 where
@@ -35,18 +31,23 @@ pub record Answers (grain : GrainSize) (first : Whole) (lines : List (List ℕ))
   pub run : IsRun grain reading first (map single lines) history.entries last
   pub holds : Holds last
 
--- A crash now leaves an image, and what it says of the disks that the lanes give back may be recovered of the history, with the entry
--- that isn't answered, if one is under way.
-pub record Leaves {D : Type 0} (may_leave : D → List ℕ → Type 0) (n : Noted D) (last : Whole) : Type 0 where
-  pub volumes : HaveVolumes n.disks n.store
-  pub found : (c : List ℕ) → may_leave n.meta.disk c →
-      (image : MetaImage) × (recovered c ≡ Image image)
-      × ((back : List (List NamedDisk)) → HoldAllOf n.named n.store.lanes back →
-      (least : List Row) × (asked : Option Request) × (one : Option Another)
-      × Recoverable n.store.control.grain back (kept_in image) last least asked one)
+-- A stop, as the loop over lines knows it.
+abbrev pub stop_told : NotedStop → Stop
+stop_told LogFull = LogIsFull
+stop_told NoMemory = WantsMemory
+stop_told MetaFailed = WantsMemory
+stop_told MetaFull = WantsMemory
 
--- Why no line is answered any more: it isn't known yet, or the disk of metadata failed or has no room, or memory was wanted.
+-- A line is answered to its end; or its first entries are there.
 module _ {D : Type 0} (seen : D → List ℕ) (may_leave : D → List ℕ → Type 0) where
+  abbrev pub LineIsAnswered : Result (Unit {0}) NotedStop → Noted D → Noted D → List ℕ → Whole → HistoryState → HistoryState → Type 0
+  LineIsAnswered (Ok done) old new bytes w before after =
+      (new.live ≡ true) × (new.store.control.grain ≡ old.store.control.grain)
+      × ((next : Whole) × (least : List Row) × IsNotedAt seen may_leave new after next least
+      × Adds before after (λ more. GoesToEnd (session_rules old.store.control.grain reading) (Session (single bytes ∷ [])) w more next))
+  LineIsAnswered (Err stop) old new bytes w before after = LineHalts may_leave reading stop old new bytes w before after
+
+  -- What is said of the lines so far.
   abbrev pub noted_runs : Noted D → Option NotedStop → Start → Runs
   noted_runs n stop start = record {
     Whole = λ lines history. (stop ≡ None) × (n.live ≡ true) × (n.store.control.grain ≡ start.grain) ×

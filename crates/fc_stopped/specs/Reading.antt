@@ -1,5 +1,5 @@
 -- How a line is read where metadata stands on a disk that stops: by the grammar, outside of blocks; a preset names no line.
-use Rattle.std.specs.Prelude.{Result, Ok, Err}
+use Rattle.std.specs.Prelude.{ℕ, List, Result, Ok, Err}
 use Rattle.fc_base.specs.declared.command.Command.TheVariants.{Mkpreset}
 use Rattle.fc_base.specs.declared.command.Line.{Line}
 use Rattle.fc_base.specs.declared.command.Line.TheVariants.{Command}
@@ -13,6 +13,9 @@ abbrev pub without_presets : Result Line WordFault → Result Line WordFault
 without_presets (Ok (Command (Mkpreset source preset name))) = Err UnknownCommand
 without_presets read = read
 
+abbrev pub own_reading : List ℕ → Result Line WordFault
+own_reading line = without_presets (line_of Free line)
+
 -- The books don't matter to it.
 unfoldable pub reading : Reading
-reading books line = without_presets (line_of Free line)
+reading books line = own_reading line

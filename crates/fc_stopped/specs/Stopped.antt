@@ -59,7 +59,7 @@ IsAskedFor number far = Unit {0}
 
 -- No image, where nothing is answered; or what an image and the disks say, which may be recovered of the history, with the entry that
 -- isn't answered, if one was under way.
-data pub IsState (last : Whole) (history : HistoryState) : List ℕ → Type 0 where
+pub data IsState (last : Whole) (history : HistoryState) : List ℕ → Type 0 where
   none : history.entries ≡ [] → IsState last history no_image
   first : (image : MetaImage) (disks : List (List NamedDisk)) (text : List ℕ) (behind : List (List NamedDisk))
       (least : List Row) (asked : Option Request) (one : Option Another) →

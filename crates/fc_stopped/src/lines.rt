@@ -1,5 +1,13 @@
 //! A noted store answers the lines of a session.
 
+ghost use Rattle.std.specs.Prelude.{◌≡◌, ◌≤◌, List, Ok, IfOk, length, true, ℕ};
+ghost use Rattle.fc_blocks.specs.Reading.{script_line};
+ghost use Rattle.fc_changed.specs.Row.{Row};
+ghost use Rattle.fc_legal.specs.Whole.{Whole};
+ghost use Rattle.fc_noted.specs.Noted.{IsNotedAt};
+ghost use Rattle.fc_stopped.specs.Lines.{LineIsAnswered, Start, noted_runs, stop_told};
+ghost use Rattle.fc_stopped.specs.Reading.{own_reading, without_presets};
+
 use fc_base::command::{Command, Line, Scope, ScriptLine};
 use fc_base::fault::WordFault;
 use fc_base::outcome::NoMemory;
@@ -26,7 +34,9 @@ pub(crate) struct NotedLines<D: Mdisk, M: MetaDisk> {
 }
 
 /// A line as it is answered here: a preset names none.
-fn without_presets(line: Line) -> ScriptLine {
+fn without_presets(line: Line) -> ScriptLine
+    ensures { result ≡ script_line (without_presets (Ok line)) }
+{
     match line {
         Line::Command(Command::Mkpreset { .. }) => ScriptLine::Unread(WordFault::UnknownCommand),
         other => ScriptLine::Read(other),
@@ -34,7 +44,9 @@ fn without_presets(line: Line) -> ScriptLine {
 }
 
 /// Reads a line of a session.
-fn read_own(alloc: Global, line: &[u8]) -> Result<ScriptLine, NoMemory> {
+fn read_own(alloc: Global, line: &[u8]) -> Result<ScriptLine, NoMemory>
+    ensures { IfOk result (λ read. read ≡ script_line (own_reading line.now)) }
+{
     match read_line(alloc, line, Scope::Free) {
         Ok(line) => Ok(without_presets(line)),
         Err(WordRefused::Fault(fault)) => Ok(ScriptLine::Unread(fault)),
@@ -43,7 +55,9 @@ fn read_own(alloc: Global, line: &[u8]) -> Result<ScriptLine, NoMemory> {
 }
 
 /// A stop, as the loop over lines knows it: one that isn't the history's limit leaves the first entries of the line.
-fn told(stop: NotedStop) -> Stop {
+fn told(stop: NotedStop) -> Stop
+    ensures { result ≡ stop_told stop }
+{
     match stop {
         NotedStop::LogFull => Stop::LogFull,
         NotedStop::NoMemory | NotedStop::MetaFailed | NotedStop::MetaFull => Stop::NoMemory,
@@ -52,7 +66,15 @@ fn told(stop: NotedStop) -> Stop {
 
 impl<D: Mdisk, M: MetaDisk> NotedLines<D, M> {
     /// Answers a line as it was read.
-    fn answer(&mut self, line: ScriptLine, history: &mut History) -> Result<(), NotedStop> {
+    fn answer(&mut self, line: ScriptLine, history: &mut History) -> Result<(), NotedStop>
+        requires at { (w : Whole) × (least : List Row) × IsNotedAt M.seen M.may_leave self.old.noted history.old w least }
+        requires live { self.old.noted.live ≡ true }
+        requires room { length history.old.entries ≤ 262144 }
+        requires read { (bytes : List ℕ) × (line ≡ script_line (own_reading bytes)) }
+        ensures answered { (bytes : List ℕ) (w : Whole) (least : List Row) → line ≡ script_line (own_reading bytes) →
+            IsNotedAt M.seen M.may_leave self.old.noted history.old w least → LineIsAnswered M.seen M.may_leave result self.old.noted self.new.noted bytes w history.old history.new }
+        ensures others { self.new ≡ record self.old { noted = self.new.noted } }
+    {
         match line {
             ScriptLine::Read(line) => self.noted.run_line(line, history),
             ScriptLine::Unread(fault) => self.noted.run_unread(fault, history),
@@ -61,12 +83,9 @@ impl<D: Mdisk, M: MetaDisk> NotedLines<D, M> {
 }
 
 impl<D: Mdisk, M: MetaDisk> Answers for NotedLines<D, M> {
-    ghost use Rattle.std.specs.Prelude.{Unit};
-    ghost use Rattle.fc_run.specs.Runs.{Runs};
+    ghost Start = { Start };
 
-    ghost Start = { Unit {0} };
-
-    ghost runs = { λ l start. record { Whole = λ lines history. Unit {0}; Full = λ lines history. Unit {0}; Front = λ lines history. Unit {0}; is_open = λ lines. false } };
+    ghost runs = { λ l start. noted_runs M.seen M.may_leave l.noted l.stop start };
 
     fn line(&mut self, line: &[u8], history: &mut History) -> Result<(), Stop> {
         let read = match read_own(self.alloc, line) {

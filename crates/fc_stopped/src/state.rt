@@ -1,5 +1,16 @@
 //! What is recovered is written.
 
+ghost use Rattle.std.specs.Prelude.{◌≡◌, [], IfOk, is_err};
+ghost use Rattle.fc_entry.specs.Written.{Written};
+ghost use Rattle.fc_format.specs.Halves.{Image as FoundImage, recovered};
+ghost use Rattle.fc_image.specs.declared.image.MetaImage.{MetaImage as Said};
+ghost use Rattle.fc_kept.specs.Sound.{IsSoundImage};
+ghost use Rattle.fc_recovered.specs.Recovered.{CanRecover};
+ghost use Rattle.fc_stopped.specs.Far.{status_unwritten};
+ghost use Rattle.fc_stopped.specs.Recovering.{IsFirstText, IsFound, IsFoundGood, IsImageText, IsStateText, KeepKinds};
+ghost use Rattle.fc_stopped.specs.Putting.{IsPutOr, ReadsPut, StateIsPut};
+ghost use Rattle.fc_stopped.specs.Text.{lines_text, no_image, read_text, rows_in};
+
 use crate::registry::registry_of;
 use crate::sheet::sheet_of;
 use fc_base::command::Command;
@@ -23,11 +34,10 @@ use fc_report::report;
 use std::alloc::Global;
 
 /// The rows of all mappings, as an image has them: those of `lsfcmap -delim :`, without a settling.
-pub fn rows_of(
-    alloc: Global,
-    grain: GrainSize,
-    image: &MetaImage,
-) -> Result<Rows, NoMemory> {
+pub fn rows_of(alloc: Global, grain: GrainSize, image: &MetaImage) -> Result<Rows, NoMemory>
+    requires { IsSoundImage image.now }
+    ensures { IfOk result (λ rows. rows ≡ rows_in grain image.now) }
+{
     let registry = registry_of(alloc, image)?;
     let sheet = sheet_of(alloc, image)?;
     let changes = Changes::new(alloc);
@@ -41,7 +51,9 @@ pub fn rows_of(
 }
 
 /// Puts a read and its answer.
-fn put_read<K: Sink>(part: ReadPart, reply: &Reply, sink: &mut K) -> Result<(), Failed> {
+fn put_read<K: Sink>(part: ReadPart, reply: &Reply, sink: &mut K) -> Result<(), Failed>
+    ensures { Written (K.meaning sink.old) (read_text part reply.now) (is_err result) (K.meaning sink.new) }
+{
     put_request(&Request::Read(part), sink)?;
     put_text(sink, b" -> ")?;
     put_reply(reply, sink)?;
@@ -53,7 +65,9 @@ fn put_reads<D: Mdisk, K: Sink>(
     alloc: Global,
     recovered: &mut Recovered<D>,
     sink: &mut K,
-) -> Result<(), Failed> {
+) -> Result<(), Failed>
+    ensures { ReadsPut recovered.old recovered.new (K.meaning sink.old) (is_err result) (K.meaning sink.new) }
+{
     let volumes = recovered.volumes().len();
     for place in 0..volumes {
         if let Some(part) = recovered.first_block(place) {
@@ -74,7 +88,9 @@ pub(crate) enum Unwritten {
 
 impl Unwritten {
     /// The status of a call that ends so.
-    pub fn status(self) -> Status {
+    pub fn status(self) -> Status
+        ensures { result ≡ status_unwritten self }
+    {
         match self {
             Unwritten::Failed => Status::WriteFault,
             Unwritten::NoMemory => Status::NoMemory,
@@ -83,12 +99,16 @@ impl Unwritten {
 }
 
 impl From<Failed> for Unwritten {
+    ghost from_gives = { λ failed e. e ≡ Unwritten.Failed };
+
     fn from(_failed: Failed) -> Unwritten {
         Unwritten::Failed
     }
 }
 
 impl From<NoMemory> for Unwritten {
+    ghost from_gives = { λ wanted e. e ≡ Unwritten.NoMemory };
+
     fn from(_wanted: NoMemory) -> Unwritten {
         Unwritten::NoMemory
     }
@@ -100,14 +120,20 @@ fn put_rows<K: Sink>(
     grain: GrainSize,
     image: &MetaImage,
     sink: &mut K,
-) -> Result<(), Unwritten> {
+) -> Result<(), Unwritten>
+    requires { IsSoundImage image.now }
+    ensures { IsPutOr result (lines_text (rows_in grain image.now)) (K.meaning sink.old) (K.meaning sink.new) }
+{
     let rows = rows_of(alloc, grain, image)?;
     put_reply_rows(&Reply::Listed(rows), sink)?;
     Ok(())
 }
 
 /// What the disk of metadata stands for: an image, or none.
-pub(crate) fn found_on(alloc: Global, found: MemMeta) -> Result<Option<MetaImage>, NoMemory> {
+pub(crate) fn found_on(alloc: Global, found: MemMeta) -> Result<Option<MetaImage>, NoMemory>
+    requires { IsFoundGood (recovered found.bytes) }
+    ensures { IfOk result (λ image. IsFound (recovered found.bytes) image) }
+{
     match Meta::recover(alloc, found) {
         Ok((_, image)) => Ok(Some(image)),
         Err((_, RecoverError::NoImage)) => Ok(None),
@@ -123,7 +149,11 @@ fn put_image<D: Mdisk, K: Sink>(
     image: MetaImage,
     lanes: Vec<LaneDisks<D>>,
     sink: &mut K,
-) -> (Vec<LaneDisks<D>>, Result<(), Unwritten>) {
+) -> (Vec<LaneDisks<D>>, Result<(), Unwritten>)
+    requires { CanRecover grain image lanes.items }
+    ensures kinds { KeepKinds lanes.items result.0.items }
+    ensures put { StateIsPut result.1 (λ text. IsImageText grain image lanes.items text result.0.items) (K.meaning sink.old) (K.meaning sink.new) }
+{
     match put_rows(alloc, grain, &image, sink) {
         Ok(()) => {}
         Err(unwritten) => return (lanes, Err(unwritten)),
@@ -138,7 +168,9 @@ fn put_image<D: Mdisk, K: Sink>(
 }
 
 /// Puts that no image was found.
-fn put_no_image<K: Sink>(sink: &mut K) -> Result<(), Unwritten> {
+fn put_no_image<K: Sink>(sink: &mut K) -> Result<(), Unwritten>
+    ensures { IsPutOr result no_image (K.meaning sink.old) (K.meaning sink.new) }
+{
     put_text(sink, b"no image\n")?;
     Ok(())
 }
@@ -150,7 +182,12 @@ pub(crate) fn put_state<D: Mdisk, K: Sink>(
     found: MemMeta,
     lanes: Vec<LaneDisks<D>>,
     sink: &mut K,
-) -> (Vec<LaneDisks<D>>, Result<(), Unwritten>) {
+) -> (Vec<LaneDisks<D>>, Result<(), Unwritten>)
+    requires good { IsFoundGood (recovered found.bytes) }
+    requires can { (image : Said) → recovered found.bytes ≡ FoundImage image → CanRecover grain image lanes.items }
+    ensures kinds { KeepKinds lanes.items result.0.items }
+    ensures put { StateIsPut result.1 (λ text. IsStateText grain (recovered found.bytes) lanes.items text result.0.items) (K.meaning sink.old) (K.meaning sink.new) }
+{
     match found_on(alloc, found) {
         Ok(Some(image)) => put_image(alloc, grain, image, lanes, sink),
         Ok(None) => (lanes, put_no_image(sink)),
@@ -164,7 +201,11 @@ pub(crate) fn put_first_state<K: Sink>(
     grain: GrainSize,
     found: MemMeta,
     sink: &mut K,
-) -> Result<(), Unwritten> {
+) -> Result<(), Unwritten>
+    requires good { IsFoundGood (recovered found.bytes) }
+    requires bare { (image : Said) → recovered found.bytes ≡ FoundImage image → IsSoundImage image × (image.volumes ≡ []) }
+    ensures { StateIsPut result (λ text. IsFirstText grain (recovered found.bytes) text) (K.meaning sink.old) (K.meaning sink.new) }
+{
     match found_on(alloc, found)? {
         Some(image) => put_rows(alloc, grain, &image, sink),
         None => put_no_image(sink),

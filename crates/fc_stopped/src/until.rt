@@ -1,5 +1,21 @@
 //! A session is run until a call of its disk of metadata.
 
+ghost use Rattle.std.specs.Prelude.{◌≡◌, ◌<◌, ◌≤◌, ◌^◌, ◌++◌, [], List, OnErr, OnOk, is_err, length, map, vec_capacity, vec_len, ℕ};
+ghost use Rattle.std.specs.List.{All};
+ghost use Rattle.fc_call.specs.Call.{empty};
+ghost use Rattle.fc_entry.specs.Text.{HasNames, history_text};
+ghost use Rattle.fc_entry.specs.Written.{Written};
+ghost use Rattle.fc_format.specs.Halves.{Image as FoundImage, recovered};
+ghost use Rattle.fc_image.specs.declared.image.MetaImage.{MetaImage as Said};
+ghost use Rattle.fc_mdisk.specs.Disk.{DiskState, IsFresh};
+ghost use Rattle.fc_metadisk.specs.Stop.{found_after, new_stop};
+ghost use Rattle.fc_noted.specs.Noted.{NoHistory};
+ghost use Rattle.fc_recovered.specs.Recovered.{CanRecover};
+ghost use Rattle.fc_stopped.specs.Ending.{EndsUnopened, IsOpened, IsUnopened, StatePut, StatusWritten, TextEnds, TextPut, all_disks};
+ghost use Rattle.fc_stopped.specs.Recovering.{IsFoundGood, IsStateText, KeepKinds};
+ghost use Rattle.fc_stopped.specs.Stopped.{StopEnds, first_told};
+ghost use Rattle.fc_stopped.specs.Text.{far_text};
+
 use crate::far::{Far, far_of, put_far};
 use crate::lines::NotedLines;
 use crate::nowhere::Nowhere;
@@ -30,7 +46,11 @@ pub const META_BYTES: u32 = 67_108_864;
 const GRAIN: GrainSize = GrainSize::K64;
 
 /// Gives `main` its name: actor 0.
-fn add_main(alloc: Global, history: &mut History) -> Result<(), NoMemory> {
+fn add_main(alloc: Global, history: &mut History) -> Result<(), NoMemory>
+    requires { history.old ≡ empty }
+    ensures ok { OnOk result (history.new ≡ NoHistory) }
+    ensures err { OnErr result (history.new ≡ history.old) }
+{
     match Name::new(alloc, b"main") {
         Ok(Some(name)) => match history.actor(alloc, &name) {
             Ok(_) => Ok(()),
@@ -42,7 +62,11 @@ fn add_main(alloc: Global, history: &mut History) -> Result<(), NoMemory> {
 }
 
 /// Gives disks back, into room that was taken for them.
-fn give_back<D: Mdisk>(lanes: Vec<LaneDisks<D>>, disks: &mut Vec<D>) {
+fn give_back<D: Mdisk>(lanes: Vec<LaneDisks<D>>, disks: &mut Vec<D>)
+    requires none { disks.old.items ≡ [] }
+    requires room { length (all_disks lanes.items) ≤ vec_capacity disks.old }
+    ensures { map D.meaning disks.new.items ≡ all_disks lanes.items }
+{
     for lane in lanes {
         for named in lane.into_vec() {
             let _room_is_there = disks.push(named.into_disk());
@@ -51,19 +75,27 @@ fn give_back<D: Mdisk>(lanes: Vec<LaneDisks<D>>, disks: &mut Vec<D>) {
 }
 
 /// Puts the text of a history, and sends on what waits.
-fn put_text_alone<K: Sink>(history: &History, sink: &mut K) -> Result<(), Failed> {
+fn put_text_alone<K: Sink>(history: &History, sink: &mut K) -> Result<(), Failed>
+    requires { HasNames history.now }
+    ensures { TextPut (history_text history.now) (K.meaning sink.old) (is_err result) (K.meaning sink.new) }
+{
     put_history(history, sink)?;
     sink.flush()
 }
 
 /// Puts the text of a history, and how far the session came.
-fn put_text_and_far<K: Sink>(history: &History, far: Far, sink: &mut K) -> Result<(), Failed> {
+fn put_text_and_far<K: Sink>(history: &History, far: Far, sink: &mut K) -> Result<(), Failed>
+    requires { HasNames history.now }
+    ensures { Written (K.meaning sink.old) (history_text history.now ++ far_text far) (is_err result) (K.meaning sink.new) }
+{
     put_history(history, sink)?;
     put_far(far, sink)
 }
 
 /// The status of a call that wrote its state, or didn't; what waits is sent on.
-fn status_of<K: Sink>(written: Result<(), Unwritten>, sink: &mut K) -> Status {
+fn status_of<K: Sink>(written: Result<(), Unwritten>, sink: &mut K) -> Status
+    ensures { StatusWritten written result (K.meaning sink.old) (K.meaning sink.new) }
+{
     match written {
         Ok(()) => match sink.flush() {
             Ok(()) => Status::Done,
@@ -82,7 +114,13 @@ fn end_at<D: Mdisk, K: Sink>(
     lanes: Vec<LaneDisks<D>>,
     sink: &mut K,
     history: &History,
-) -> (Vec<LaneDisks<D>>, Status) {
+) -> (Vec<LaneDisks<D>>, Status)
+    requires named { HasNames history.now }
+    requires good { IsFoundGood (recovered (found_after meta)) }
+    requires can { (image : Said) → recovered (found_after meta) ≡ FoundImage image → CanRecover GrainSize.K64 image lanes.items }
+    ensures kinds { KeepKinds lanes.items result.0.items }
+    ensures put { StatePut (history_text history.now ++ far_text far) (λ text. IsStateText GrainSize.K64 (recovered (found_after meta)) lanes.items text result.0.items) result.1 (K.meaning sink.old) (K.meaning sink.new) }
+{
     match put_text_and_far(history, far, sink) {
         Ok(()) => {
             let (lanes, written) = put_state(alloc, GRAIN, meta.after(), lanes, sink);
@@ -93,7 +131,10 @@ fn end_at<D: Mdisk, K: Sink>(
 }
 
 /// Ends a call whose session ended with this status: writes the text of the history.
-fn end_with<K: Sink>(status: Status, sink: &mut K, history: &History) -> Status {
+fn end_with<K: Sink>(status: Status, sink: &mut K, history: &History) -> Status
+    requires { HasNames history.now }
+    ensures { TextEnds (history_text history.now) status result (K.meaning sink.old) (K.meaning sink.new) }
+{
     match put_text_alone(history, sink) {
         Ok(()) => status,
         Err(Failed) => Status::WriteFault,
@@ -107,7 +148,10 @@ fn end_unopened<K: Sink>(
     meta: StopMeta,
     stop: NotedStop,
     sink: &mut K,
-) -> Status {
+) -> Status
+    requires { IsUnopened (found_after meta) stop }
+    ensures { EndsUnopened call (recovered (found_after meta)) stop result (K.meaning sink.old) (K.meaning sink.new) }
+{
     let far = match stop {
         NotedStop::MetaFailed => Far::ToCall(call),
         NotedStop::MetaFull => Far::ToFull,
@@ -132,7 +176,23 @@ fn run_noted<D: Mdisk, S: Source, K: Sink>(
     sink: &mut K,
     disks: &mut Vec<D>,
     history: &mut History,
-) -> Status {
+) -> Status
+    requires begun { history.old ≡ NoHistory }
+    requires stands { (old : List DiskState) × IsOpened call noted (first_told old) old }
+    requires none { disks.old.items ≡ [] }
+    requires room { (old : List DiskState) → IsOpened call noted (first_told old) old → length old ≤ vec_capacity disks.old }
+    ensures { (old : List DiskState) → IsOpened call noted (first_told old) old → StopEnds call
+        (record {
+          status = result;
+          source = S.meaning source.old;
+          source' = S.meaning source.new;
+          sink = K.meaning sink.old;
+          sink' = K.meaning sink.new;
+          disks = old;
+          disks' = map D.meaning disks.new.items;
+          history = history.new;
+        }) }
+{
     let mut lines = NotedLines {
         alloc,
         noted,
@@ -168,7 +228,24 @@ pub fn run_over<D: Mdisk, S: Source, K: Sink>(
     sink: &mut K,
     disks: &mut Vec<D>,
     history: &mut History,
-) -> Status {
+) -> Status
+    requires empty { history.old ≡ empty }
+    requires few { vec_len disks.old < 2 ^ 30 }
+    requires fresh { All IsFresh (map D.meaning disks.old.items) }
+    requires counted { 0 < call }
+    requires zeros { (size : ℕ) × (meta ≡ new_stop size call) }
+    ensures { StopEnds call
+        (record {
+          status = result;
+          source = S.meaning source.old;
+          source' = S.meaning source.new;
+          sink = K.meaning sink.old;
+          sink' = K.meaning sink.new;
+          disks = map D.meaning disks.old.items;
+          disks' = map D.meaning disks.new.items;
+          history = history.new;
+        }) }
+{
     match add_main(alloc, history) {
         Ok(()) => {}
         Err(NoMemory) => return Status::NoMemory,
@@ -201,7 +278,23 @@ pub fn run_until<D: Mdisk, S: Source, K: Sink>(
     sink: &mut K,
     disks: &mut Vec<D>,
     history: &mut History,
-) -> Status {
+) -> Status
+    requires empty { history.old ≡ empty }
+    requires few { vec_len disks.old < 2 ^ 30 }
+    requires fresh { All IsFresh (map D.meaning disks.old.items) }
+    requires counted { 0 < call }
+    ensures { StopEnds call
+        (record {
+          status = result;
+          source = S.meaning source.old;
+          source' = S.meaning source.new;
+          sink = K.meaning sink.old;
+          sink' = K.meaning sink.new;
+          disks = map D.meaning disks.old.items;
+          disks' = map D.meaning disks.new.items;
+          history = history.new;
+        }) }
+{
     match StopMeta::new(alloc, META_BYTES, call) {
         Ok(meta) => run_over(alloc, call, meta, source, sink, disks, history),
         Err(NoMemory) => Status::NoMemory,

@@ -1,5 +1,6 @@
 //! What a stop leaves, compared with plain volumes and with the rows of a run without a stop.
 
+use crate::images::{agree, has_bit};
 use crate::reference::{Reference, rows_text};
 use crate::stopped::Found;
 use crate::texts::traced;
@@ -8,8 +9,9 @@ use fc_base::outcome::NoMemory;
 use fc_base::request::{ReadPart, Reply, Request, WritePart};
 use fc_base::size::GrainSize;
 use fc_entry::entry::Entry;
-use fc_plain::{Plain, PlainRead};
+use fc_image::MetaImage;
 use fc_mdisk::mdisk::Mdisk;
+use fc_plain::{Plain, PlainRead};
 use fc_recovered::Recovered;
 use fc_stopped::rows_of;
 use std::alloc::Global;
@@ -34,6 +36,12 @@ pub enum Wrong {
     Volumes,
     /// The rows of all mappings are none that the session goes through there.
     Rows,
+    /// The call writes something else.
+    Text,
+    /// The image says something else.
+    Image,
+    /// A grain is written by now and doesn't count as changed.
+    Unmarked(u32, u32),
 }
 
 impl From<NoMemory> for Wrong {
@@ -144,12 +152,16 @@ fn compare_grain<D: Mdisk>(
         return Ok(tally);
     };
     let is_own = match write_of(unfinished) {
-        Some(part) => part.volume.0 == volume.0 && part.block / u64::from(BLOCKS) == u64::from(grain),
+        Some(part) => part.volume.0 == volume.0
+            && part.block / u64::from(BLOCKS) == u64::from(grain),
         None => false,
     };
     let any = is_own && tore(unfinished);
     if !before && !behind && !any {
         return Err(Wrong::Read(volume.0, grain));
+    }
+    if is_own && !before && !is_marked(recovered.image(), volume.0, grain) {
+        return Err(Wrong::Unmarked(volume.0, grain));
     }
     Ok(Tally {
         reads: tally.reads.saturating_add(1),
@@ -200,21 +212,60 @@ fn compare_reads<D: Mdisk>(
     Ok(tally)
 }
 
-/// Whether some rows are those of a step between these entries and the next.
-fn are_on_the_way(reference: &Reference, entries: usize, rows: &[u8]) -> bool {
-    let mut is_next = false;
-    for stage in reference.stages.as_slice() {
-        if stage.entries == entries && stage.rows.as_slice() == rows {
-            return true;
-        }
-        if stage.entries == entries.saturating_add(1) {
-            if !is_next && stage.rows.as_slice() == rows {
+/// Whether a write that was asked for named this grain of a mapping's volumes.
+fn was_asked(reference: &Reference, upto: usize, image: &MetaImage, map: u32, grain: u32) -> bool {
+    let all = reference.history.len();
+    for place in 0..upto.min(all) {
+        if let Some(part) = write_of(Some(reference.history.entry(place))) {
+            if part.block / u64::from(BLOCKS) == u64::from(grain)
+                && names(image, map, part.volume.0)
+            {
                 return true;
             }
-            is_next = true;
         }
     }
     false
+}
+
+/// Whether a mapping has this volume as source or target.
+fn names(image: &MetaImage, map: u32, volume: u32) -> bool {
+    image.mappings.as_slice().iter().any(|m| m.id.0 == map
+        && (m.source.0 == volume || m.target.0 == volume))
+}
+
+/// Whether an image and its rows are those of a step between these entries and the next: which of the two isn't.
+fn on_the_way(
+    reference: &Reference,
+    entries: usize,
+    rows: &[u8],
+    image: &MetaImage,
+) -> Result<(), Wrong> {
+    let mut is_next = false;
+    let mut wrong = Wrong::Rows;
+    let upto = entries.saturating_add(1);
+    let may_be_more = |map: u32, grain: u32| was_asked(reference, upto, image, map, grain);
+    for stage in reference.stages.as_slice() {
+        let first_next = stage.entries == upto && !is_next;
+        if stage.entries == upto {
+            is_next = true;
+        }
+        if (stage.entries == entries || first_next) && stage.rows.as_slice() == rows {
+            wrong = Wrong::Image;
+            if agree(image, &stage.image, &may_be_more) {
+                return Ok(());
+            }
+        }
+    }
+    Err(wrong)
+}
+
+/// Whether a grain that is written by now counts as changed for each mapping that is followed and names the volume.
+fn is_marked(image: &MetaImage, volume: u32, grain: u32) -> bool {
+    image.changes.as_slice().iter().all(|row| {
+        !names(image, row.map.0, volume)
+            || has_bit(&row.changed, grain)
+            || !has_bit(&row.kept, grain)
+    })
 }
 
 /// Whether a text begins with another.
@@ -247,9 +298,7 @@ pub fn judge(
     };
     let rows = rows_of(alloc, GrainSize::K64, recovered.image())?;
     let rows = rows_text(alloc, &Reply::Listed(rows))?;
-    if !are_on_the_way(reference, entries, rows.as_slice()) {
-        return Err(Wrong::Rows);
-    }
+    on_the_way(reference, entries, rows.as_slice(), recovered.image())?;
     let tally = compare_reads(alloc, recovered, plains, unfinished)?;
     Ok(tally.reads)
 }

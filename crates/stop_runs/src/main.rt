@@ -5,6 +5,7 @@ mod disks;
 mod drawn;
 mod draws;
 mod generated;
+mod images;
 mod judged;
 mod reference;
 mod stopped;

@@ -9,6 +9,8 @@ use fc_base::request::Reply;
 use fc_base::size::GrainSize;
 use fc_entry::history::History;
 use fc_entry::reply_text::put_reply_rows;
+use fc_image::MetaImage;
+use fc_imaging::image_of;
 use fc_io::mem_sink::MemSink;
 use fc_marks::NotedStop;
 use fc_mdisk::mdisk::Mdisk;
@@ -22,6 +24,7 @@ use std::alloc::{AllocError, Global};
 pub struct Stage {
     pub entries: usize,
     pub rows: Vec<u8>,
+    pub image: MetaImage,
 }
 
 /// A session as it is answered without a stop.
@@ -71,7 +74,7 @@ pub fn rows_text(alloc: Global, reply: &Reply) -> Result<Vec<u8>, NoMemory> {
     }
 }
 
-/// Adds what stands behind a step, where that is something else.
+/// Adds what stands behind a step.
 fn add_stage<D: Mdisk, M: MetaDisk>(
     alloc: Global,
     noted: &Noted<D, M>,
@@ -79,11 +82,12 @@ fn add_stage<D: Mdisk, M: MetaDisk>(
     stages: &mut Vec<Stage>,
 ) -> Result<(), NoMemory> {
     let rows = rows_now(alloc, noted.store())?;
-    let len = stages.len();
-    if len > 0 && stages[len - 1].entries == entries && stages[len - 1].rows.as_slice() == rows.as_slice() {
-        return Ok(());
-    }
-    match stages.push(Stage { entries, rows }) {
+    let image = image_of(alloc, noted.store().control(), noted.store().all_lanes())?;
+    match stages.push(Stage {
+        entries,
+        rows,
+        image,
+    }) {
         Ok(()) => Ok(()),
         Err(_) => Err(NoMemory),
     }
@@ -149,7 +153,12 @@ fn store_history(alloc: Global, session: &str, disks: u32) -> Result<History, Al
 }
 
 /// A session as it is answered without a stop.
-pub fn reference(alloc: Global, session: &str, disks: u32, bytes: u32) -> Result<Reference, AllocError> {
+pub fn reference(
+    alloc: Global,
+    session: &str,
+    disks: u32,
+    bytes: u32,
+) -> Result<Reference, AllocError> {
     let history = store_history(alloc, session, disks)?;
     let trace = traced(alloc, &history)?;
     let Ok(mut other) = begun(alloc) else {
