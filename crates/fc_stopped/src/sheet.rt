@@ -1,6 +1,6 @@
 //! The chains of an image, as reports ask for them.
 
-ghost use Rattle.std.specs.Prelude.{◌≡◌, ◌++◌, ◌×◌, Bool, List as Items, IfOk, OnOk, length, map, true};
+ghost use Rattle.std.specs.Prelude.{◌≡◌, ◌++◌, Bool, List as Items, IfOk, OnOk, length, map, true};
 ghost use Rattle.std.specs.Option.{option_map};
 ghost use Rattle.fc_base.specs.Tables.{Tables};
 ghost use Rattle.fc_bits.specs.Words.{bit_of, grains_of};

@@ -234,7 +234,7 @@ pub fn run_text<R: Print>(
     bytes: u32,
     calls: (u32, u32),
 ) -> io::Result<()> {
-    let known = reference(alloc, session, DISKS, bytes)?;
+    let known = reference(alloc, session, DISKS)?;
     if !known.same {
         return println!(rt; "session {number}: the noted store has another history");
     }

@@ -15,7 +15,7 @@ mod worked;
 use crate::drawn::drawn_session;
 use crate::generated::{run_generated, run_text};
 use crate::reference::reference;
-use crate::worked::run_worked;
+use crate::worked::{run_stop, run_worked};
 use std::{env, io};
 
 /// A number, or 0.
@@ -48,15 +48,29 @@ fn main(rt: HostRuntime) -> io::Result<()> {
                 session.push_str("\n")?;
             }
             if to == 1 {
-                let known = reference(alloc, session.as_str(), 40, bytes)?;
+                let known = reference(alloc, session.as_str(), 40)?;
                 return rt.stdout().write_all(known.trace.as_slice());
             }
             run_text(&rt, alloc, from, session.as_str(), bytes, calls)
         }
+        "stop" => {
+            let mut session = String::new(alloc);
+            for line in rt.lines(alloc) {
+                let line = line?;
+                session.push_str(line.as_str())?;
+                session.push_str("\n")?;
+            }
+            run_stop(
+                &rt,
+                alloc,
+                session.as_str(),
+                u32::try_from(from).unwrap_or(1),
+            )
+        }
         "trace" => {
             let session = drawn_session(alloc, from, from % 2 == 1)?;
             println!(rt; "{}", session.as_str())?;
-            let known = reference(alloc, session.as_str(), 40, bytes)?;
+            let known = reference(alloc, session.as_str(), 40)?;
             rt.stdout().write_all(known.trace.as_slice())
         }
         _ => run_worked(&rt, alloc),

@@ -19,6 +19,9 @@ use fc_noted::Noted;
 use fc_store::store::Store;
 use std::alloc::{AllocError, Global};
 
+/// How many bytes the disk of metadata has: enough for any image of a session.
+const META_BYTES: u32 = 65_536;
+
 /// What stands behind a step: how many entries, and the rows of all mappings.
 #[derive(Drop)]
 pub struct Stage {
@@ -106,14 +109,13 @@ fn noted_stages(
     alloc: Global,
     session: &str,
     disks: u32,
-    bytes: u32,
     history: &mut History,
 ) -> Result<Vec<Stage>, NotedStop> {
     let mut stages = Vec::new(alloc);
     let Ok(disks) = made_disks(alloc, disks) else {
         return Err(NotedStop::NoMemory);
     };
-    let meta = MemMeta::new(alloc, bytes)?;
+    let meta = MemMeta::new(alloc, META_BYTES)?;
     let mut noted = match Noted::open(alloc, GrainSize::K64, disks, meta) {
         Ok(noted) => noted,
         Err((_, stop)) => return Err(stop),
@@ -153,20 +155,14 @@ fn store_history(alloc: Global, session: &str, disks: u32) -> Result<History, Al
 }
 
 /// A session as it is answered without a stop.
-pub fn reference(
-    alloc: Global,
-    session: &str,
-    disks: u32,
-    bytes: u32,
-) -> Result<Reference, AllocError> {
+pub fn reference(alloc: Global, session: &str, disks: u32) -> Result<Reference, AllocError> {
     let history = store_history(alloc, session, disks)?;
     let trace = traced(alloc, &history)?;
     let Ok(mut other) = begun(alloc) else {
         return Err(AllocError);
     };
-    let stages = match noted_stages(alloc, session, disks, bytes, &mut other) {
+    let stages = match noted_stages(alloc, session, disks, &mut other) {
         Ok(stages) => stages,
-        Err(NotedStop::MetaFull) => Vec::new(alloc),
         Err(_) => return Err(AllocError),
     };
     let noted = traced(alloc, &other)?;
