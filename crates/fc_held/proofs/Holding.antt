@@ -1,6 +1,6 @@
 -- Disks that match what lanes hold agree with whatever disks the lanes give back.
-use Rattle.std.proofs.Common.{◌≡◌, ◌⊎◌, ℕ, suc, ◌+◌, ◌<◌, ◌≤◌, ◌==◌, Bool, true, false, cond, not, ◌&&◌, is_some, Option, Some, None, List, [], ◌∷◌, ◌++◌, length, map, get_or, reverse, All, Contains, inl, inr, refl, sym, ap, subst, ◌∙◌, arith}
-use Rattle.std.specs.List.{AllZip, filter, list_any}
+use Rattle.std.proofs.Common.{◌≡◌, ◌⊎◌, ℕ, suc, ◌+◌, ◌<◌, ◌≤◌, ◌==◌, Bool, true, false, cond, not, ◌&&◌, is_some, Option, Some, None, List, [], ◌∷◌, ◌++◌, length, map, get_or, reverse, Contains, inl, inr, refl, sym, ap, subst, ◌∙◌, arith}
+use Rattle.std.specs.List.{AllZip, filter}
 use Rattle.std.specs.Prelude.{ltb}
 use Rattle.std.proofs.lemmas.Bool.{cases_Bool, cases_eq, cases_lt, eqb-true, eq-eqb, le-ltb, lt-ltb, ne_eqb}
 use Rattle.std.proofs.lemmas.Grind.{reverse_onto}
@@ -9,7 +9,7 @@ use Rattle.fc_base.specs.declared.disk.DiskKind.{DiskKind}
 use Rattle.fc_base.specs.declared.ids.VolId.{VolId}
 use Rattle.fc_base.specs.declared.size.GrainSize.{GrainSize}
 use Rattle.fc_decided.proofs.Lists.{first_in, later_in, in_cases, none_in, any_from}
-use Rattle.fc_entry.specs.Picture.{Content, Bytes, content_at}
+use Rattle.fc_entry.specs.Picture.{Bytes}
 use Rattle.fc_grains.specs.Grains.{GrainsState}
 use Rattle.fc_grains.specs.Volumes.{HoldsGrains, VolumeGrains, is_there}
 use Rattle.fc_kept.specs.Disks.{NamedDisk, is_of, disk_of, on_disk}
@@ -21,7 +21,7 @@ use Rattle.fc_rules.specs.LaneTold.{LaneOf, number_at}
 use Rattle.law_crash.specs.Leaving.{is_free, is_kind}
 use Rattle.law_crash.proofs.Disks.{find_by}
 use Rattle.law_agreeing.specs.Agreeing.{Agree, AllAgree, SameSize, lane_over}
-use Rattle.fc_held.specs.Held.{HeldBy, HoldLane, HoldAllOf, HasNoName, HasDisk, Matches, MatchAll, name_below, is_unknown, is_of_kind, free_in}
+use Rattle.fc_held.specs.Held.{HeldBy, HoldLane, HoldAllOf, HasNoName, HasDisk, Matches, MatchAll, name_below, is_unknown, is_of_kind}
 
 -- ---- names
 
@@ -75,10 +75,10 @@ pub record Missed (named : ℕ) (vs : List VolumeGrains) (v : ℕ) (o : Option N
   pub unknown : (x : VolumeGrains) → Contains vs x → x.volume.0 ≡ v → named ≤ v
 
 -- none of them has a name
-abbrev Unnamed : List NamedDisk → Type 0
+abbrev pub Unnamed : List NamedDisk → Type 0
 Unnamed rest = (d : NamedDisk) → Contains rest d → HasNoName d
 
-no_name : (rest : List NamedDisk) (v : ℕ) → Unnamed rest → disk_of rest v ≡ None
+pub no_name : (rest : List NamedDisk) (v : ℕ) → Unnamed rest → disk_of rest v ≡ None
 no_name [] v all = refl
 no_name (d ∷ rest) v all = find_by v d rest false (of_name v None d (all d (first_in d rest))) ∙ no_name rest v (λ x c. all x (later_in d x rest c))
 
@@ -147,7 +147,7 @@ kind_by p x xs false e = ap (λ (c : Bool). length (cond c (x ∷ filter p xs) (
 free_of : (kind : DiskKind) (d : NamedDisk) (o : Option VolId) → d.volume ≡ o → is_free kind d ≡ (not (is_some o) && is_kind kind d.disk.kind)
 free_of kind d o e = ap (λ (p : Option VolId). not (is_some p) && is_kind kind d.disk.kind) e
 
-free_rest : (kind : DiskKind) (rest : List NamedDisk) (ds : List DiskState) → Unnamed rest → map (λ (d : NamedDisk). d.disk) rest ≡ ds → length (filter (is_free kind) rest) ≡ length (filter (is_of_kind kind) ds)
+pub free_rest : (kind : DiskKind) (rest : List NamedDisk) (ds : List DiskState) → Unnamed rest → map (λ (d : NamedDisk). d.disk) rest ≡ ds → length (filter (is_free kind) rest) ≡ length (filter (is_of_kind kind) ds)
 free_rest kind [] [] all e = refl
 free_rest kind [] (x ∷ ds) all e = absurd cc
 free_rest kind (d ∷ rest) [] all e = absurd cc

@@ -1,14 +1,13 @@
 -- After a step disks still match what a lane holds.
-use Rattle.std.proofs.Common.{◌≡◌, ◌⊎◌, ℕ, suc, ◌+◌, ◌<◌, ◌≤◌, ◌==◌, ◌||◌, Bool, true, false, cond, not, ◌&&◌, is_some, Option, Some, None, List, [], ◌∷◌, ◌++◌, length, map, reverse, Contains, inl, inr, refl, sym, ap, subst, ◌∙◌, arith}
+use Rattle.std.proofs.Common.{◌≡◌, ℕ, suc, ◌+◌, ◌<◌, ◌==◌, ◌||◌, Bool, true, false, cond, not, ◌&&◌, is_some, Option, Some, None, List, [], ◌∷◌, ◌++◌, length, map, reverse, Contains, inl, inr, refl, sym, ap, subst, ◌∙◌}
 use Rattle.std.specs.List.{AllZip, filter, list_any}
 use Rattle.std.specs.Prelude.{ltb}
 use Rattle.std.proofs.lemmas.Bool.{cases_Bool}
 use Rattle.std.proofs.lemmas.Grind.{reverse_onto}
 use Rattle.std.proofs.lemmas.List.{map-append}
 use Rattle.fc_base.specs.declared.disk.DiskKind.{DiskKind}
-use Rattle.fc_base.specs.declared.ids.VolId.{VolId}
 use Rattle.fc_decided.proofs.Lists.{map_from, map_in}
-use Rattle.fc_entry.specs.Picture.{Content, content_at}
+use Rattle.fc_entry.specs.Picture.{content_at}
 use Rattle.fc_grains.specs.Grains.{GrainsState}
 use Rattle.fc_grains.specs.Volumes.{VolumeGrains, is_there, stored, volume_of}
 use Rattle.fc_kept.specs.Disks.{NamedDisk, is_of, disk_of, on_disk}
@@ -19,7 +18,7 @@ use Rattle.fc_steps.specs.Standing.{VolumeKind, kind_of_grains}
 use Rattle.law_crash.specs.Doing.{SameDisk}
 use Rattle.law_crash.specs.Leaving.{is_free, is_kind}
 use Rattle.law_crash.proofs.Disks.{find_by, same_name, was_of}
-use Rattle.fc_held.specs.Held.{AreOnce, GoesAlong, HasDisk, Matches, StayHeld, free_in, is_of_kind, is_unknown}
+use Rattle.fc_held.specs.Held.{AreOnce, GoesAlong, Matches, StayHeld, free_in, is_of_kind, is_unknown}
 
 -- ---- the disk of a volume
 

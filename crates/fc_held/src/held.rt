@@ -1,9 +1,7 @@
 //! The disks of a store, with the names of their volumes.
 
-ghost use Rattle.std.specs.Prelude.{◌≡◌, ◌<◌, ◌≤◌, ◌-◌, IfOk, length, map as map_list, reverse, slice_get, Option as Maybe, Some as Just, None as Nothing, if◌then◌else◌, ltb};
-ghost use Rattle.fc_base.specs.declared.volume.Volume.{Volume as VolumeValue};
+ghost use Rattle.std.specs.Prelude.{◌≡◌, ◌≤◌, IfOk, Some, None, if◌then◌else◌, ltb};
 ghost use Rattle.fc_grains.specs.Grains.{total_of};
-ghost use Rattle.fc_grains.specs.Volumes.{VolumeGrains};
 ghost use Rattle.fc_held.specs.Held.{HoldAllOf, HoldLane, HaveVolumes, HasVolumes, name_in};
 
 use fc_base::ids::VolId;
@@ -14,6 +12,14 @@ use fc_mdisk::mdisk::Mdisk;
 use fc_recovered::{LaneDisks, NamedDisk};
 use fc_store::store::Store;
 use std::alloc::Global;
+use std::collections::VecDeque;
+
+/// The name of a volume's disk: none where metadata doesn't know the volume yet.
+fn name_for(id: VolId, named: u32) -> Option<VolId>
+    ensures { result ≡ (if ltb id.0 named then Some id else None) }
+{
+    if id.0 < named { Some(id) } else { None }
+}
 
 /// The name of the disk at a place among those that a lane gives back: the volumes come from the last to the first. The disk of a
 /// volume that metadata doesn't know yet has none.
@@ -23,8 +29,7 @@ fn name_at(volumes: &[Volume], named: u32, place: usize) -> Option<VolId>
     if place >= volumes.len() {
         return None;
     }
-    let id = volumes[volumes.len() - 1 - place].id;
-    if id.0 < named { Some(id) } else { None }
+    name_for(volumes[volumes.len() - 1 - place].id, named)
 }
 
 /// The disks of a lane, named; there are no more than so many.
@@ -42,12 +47,16 @@ fn lane_named<D: Mdisk>(
         return Err(NoMemory);
     };
     lane.give_disks(&mut disks);
+    let mut left = VecDeque::from(disks);
     let mut back = Vec::new(alloc);
-    for (place, disk) in disks.into_iter().enumerate() {
+    let mut place: usize = 0;
+    while let Some(disk) = left.pop_front() {
         let name = name_at(volumes, named, place);
-        if back.push(NamedDisk::new(name, disk)).is_err() {
-            return Err(NoMemory);
+        match back.push(NamedDisk::new(name, disk)) {
+            Ok(()) => {}
+            Err(_) => return Err(NoMemory),
         }
+        place += 1;
     }
     Ok(LaneDisks::new(back))
 }
@@ -64,11 +73,16 @@ pub fn all_named<D: Mdisk>(
 {
     let (control, lanes) = store.into_control_and_lanes();
     let volumes = control.registry().all_volumes();
+    let mut left = VecDeque::from(lanes);
     let mut back = Vec::new(alloc);
-    for lane in lanes {
-        let disks = lane_named(alloc, lane, volumes, named, count)?;
-        if back.push(disks).is_err() {
-            return Err(NoMemory);
+    while let Some(lane) = left.pop_front() {
+        let disks = match lane_named(alloc, lane, volumes, named, count) {
+            Ok(disks) => disks,
+            Err(NoMemory) => return Err(NoMemory),
+        };
+        match back.push(disks) {
+            Ok(()) => {}
+            Err(_) => return Err(NoMemory),
         }
     }
     Ok(back)

@@ -76,6 +76,14 @@ module _ (f : ℕ → Slot) where
   first_chain zero a b m t label some e h same other = absurd (omega arith)
   first_chain (suc n) a b m t label some e h same other = ap chains_told (split_at (suc n) a b m t e h) ∙ one_chain n a b m label e same other
 
+  -- the chain that begins at a place, before those behind it
+  pub next_chain : (total from end label : ℕ) → from < end → end ≤ total →
+      ((k : ℕ) → from ≤ k → k < end → (f k).chain ≡ label) → (end < total → (f end).chain ≢ label) →
+      chains_told (map f (range_with_len from (total - from)))
+      ≡ record { label = label; slots = map slot_told (map f (range_with_len from (end - from))) } ∷ chains_told (map f (range_with_len end (total - end)))
+  next_chain total from end label lt le same other =
+      first_chain (end - from) from end (total - end) (total - from) label (omega arith) (omega arith) (omega arith) same (λ (some : 0 < total - end). other (omega arith))
+
   -- one chain more
   pub more_chains : (total from end label : ℕ) (old all : List MetaChain) (chain : MetaChain) → from < end → end ≤ total →
       ((k : ℕ) → from ≤ k → k < end → (f k).chain ≡ label) → (end < total → (f end).chain ≢ label) →
@@ -83,8 +91,7 @@ module _ (f : ℕ → Slot) where
       old ++ chains_told (map f (range_with_len from (total - from))) ≡ all →
       (old ++ chain ∷ []) ++ chains_told (map f (range_with_len end (total - end))) ≡ all
   more_chains total from end label old all chain lt le same other is was =
-      let next =
-      first_chain (end - from) from end (total - end) (total - from) label (omega arith) (omega arith) (omega arith) same (λ (some : 0 < total - end). other (omega arith)) in
+      let next = next_chain total from end label lt le same other in
       append_assoc old (chain ∷ []) (chains_told (map f (range_with_len end (total - end))))
       ∙ (ap (λ (c : MetaChain). old ++ c ∷ chains_told (map f (range_with_len end (total - end)))) is
       ∙ (ap (λ (z : List MetaChain). old ++ z) (sym next) ∙ was))

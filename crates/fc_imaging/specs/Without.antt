@@ -1,5 +1,5 @@
 -- An image without a volume.
-use Rattle.std.specs.Prelude.{ℕ, Bool, true, ◌==◌, not, List, [], ◌∷◌, filter}
+use Rattle.std.specs.Prelude.{Bool, true, ◌==◌, not, List, [], ◌∷◌, filter}
 use Rattle.fc_base.specs.declared.ids.VolId.{VolId}
 use Rattle.fc_base.specs.declared.volume.Volume.{Volume}
 use Rattle.fc_image.specs.declared.image.MetaChain.{MetaChain}

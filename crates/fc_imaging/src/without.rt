@@ -28,9 +28,10 @@ fn other_volumes(alloc: Global, volumes: &[Volume], gone: VolId) -> Result<Volum
 {
     let mut copies = List::new(alloc);
     for volume in volumes {
-        if volume.id.0 != gone.0 {
-            copies.push(copy_volume(alloc, volume)?)?;
+        if volume.id.0 == gone.0 {
+            continue;
         }
+        copies.push(copy_volume(alloc, volume)?)?;
     }
     Ok(copies)
 }
@@ -46,9 +47,10 @@ fn other_lost<D: Mdisk>(
 {
     let mut rows = List::new(alloc);
     for volume in volumes {
-        if volume.id.0 != gone.0 {
-            rows.push(row_told(alloc, lanes, volume)?)?;
+        if volume.id.0 == gone.0 {
+            continue;
         }
+        rows.push(row_told(alloc, lanes, volume)?)?;
     }
     Ok(rows)
 }
@@ -67,10 +69,12 @@ fn other_chains_of<D: Mdisk>(
     let mut from = 0;
     while from < slots.len() {
         let end = end_of_chain(slots, from);
-        if slots[from].volume() != gone.0 {
-            chains.push(chain_told(alloc, lanes, slots, from, end)?)?;
-        }
+        let begin = from;
         from = end;
+        if slots[begin].volume() == gone.0 {
+            continue;
+        }
+        chains.push(chain_told(alloc, lanes, slots, begin, end)?)?;
     }
     Ok(chains)
 }

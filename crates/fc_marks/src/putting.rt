@@ -1,12 +1,14 @@
 //! A record is put into metadata.
 
-ghost use Rattle.std.specs.Prelude.{◌≡◌, ◌⊎◌, ◌∷◌, [], OnOk, OnErr, IsErrOf};
+ghost use Rattle.std.specs.Prelude.{◌≡◌, ◌+◌, ◌∷◌, [], length, OnOk, IsErrOf};
 ghost use Rattle.fc_base.specs.Count.{HasRisen};
+ghost use Rattle.fc_format.specs.Bytes.{half_bytes};
 ghost use Rattle.fc_format.specs.Halves.{Image};
 ghost use Rattle.fc_format.specs.Ranges.{HasGoodIds};
 ghost use Rattle.fc_image.specs.declared.image.MetaImage.{MetaImage as Said};
-ghost use Rattle.fc_meta.specs.Answers.{LeavesEither, found_with};
-ghost use Rattle.fc_meta.specs.States.{IsResting, disk_of, found};
+ghost use Rattle.fc_marks.specs.Room.{LeavesNoRoom};
+ghost use Rattle.fc_meta.specs.Answers.{LeavesEither, PassesHalf, found_with};
+ghost use Rattle.fc_meta.specs.States.{IsResting, disk_of, found, generation_of, room_of, used_of};
 ghost use Rattle.fc_metadisk.specs.Disk.{LeavesOnly};
 
 use crate::error::NotedStop;
@@ -16,16 +18,23 @@ use fc_metadisk::MetaDisk;
 use std::alloc::Global;
 
 /// Folds metadata as it stands: its image, with all batches, becomes the image of the other half. Nothing that it says changes.
+///
+/// MetaFull where the image doesn't fit a half.
 fn fold_same<M: MetaDisk>(alloc: Global, meta: &mut Meta<M>) -> Result<(), NotedStop>
     requires rests { IsResting M.seen M.may_leave meta.old }
     requires ids { (image : Said) → found M.seen meta.old ≡ Image image → HasGoodIds image }
     ensures rests { OnOk result (IsResting M.seen M.may_leave meta.new) }
     ensures found { OnOk result (found M.seen meta.new ≡ found M.seen meta.old) }
+    ensures used { OnOk result ((image : Said) → found M.seen meta.old ≡ Image image →
+        used_of meta.new ≡ length (half_bytes (generation_of meta.old + 1) image)) }
+    ensures room { OnOk result (room_of M.seen meta.new ≡ room_of M.seen meta.old) }
     ensures any_moment { LeavesOnly M.moment M.left_since (disk_of meta.old) (disk_of meta.new)
         (LeavesEither (found M.seen meta.old) (found M.seen meta.old)) }
     ensures quiet { OnOk result (M.fault_count (disk_of meta.new) ≡ M.fault_count (disk_of meta.old)) }
     ensures failed { IsErrOf result NotedStop.MetaFailed →
         HasRisen (M.fault_count (disk_of meta.old)) (M.fault_count (disk_of meta.new)) }
+    ensures full { IsErrOf result NotedStop.MetaFull → (image : Said) → found M.seen meta.old ≡ Image image →
+        PassesHalf (generation_of meta.old) image (room_of M.seen meta.old) }
     ensures not_log { IsErrOf result NotedStop.LogFull → ⊥ }
 {
     let image = meta.image(alloc)?;
@@ -51,12 +60,16 @@ pub fn put_record<M: MetaDisk>(
     ensures quiet { OnOk result (M.fault_count (disk_of meta.new) ≡ M.fault_count (disk_of meta.old)) }
     ensures failed { IsErrOf result NotedStop.MetaFailed →
         HasRisen (M.fault_count (disk_of meta.old)) (M.fault_count (disk_of meta.new)) }
+    ensures full { IsErrOf result NotedStop.MetaFull → (image : Said) → found M.seen meta.old ≡ Image image →
+        LeavesNoRoom (generation_of meta.old) image note (room_of M.seen meta.old) }
     ensures not_log { IsErrOf result NotedStop.LogFull → ⊥ }
 {
     let records = [note];
-    if !meta.fits(&records) {
-        fold_same(alloc, meta)?;
+    if meta.fits(&records) {
+        meta.put(alloc, &records)?;
+        return Ok(());
     }
+    fold_same(alloc, meta)?;
     meta.put(alloc, &records)?;
     Ok(())
 }

@@ -14,11 +14,12 @@ use Rattle.law_agreeing.proofs.Recovering.{recovers_agreeing}
 use Rattle.law_crash.proofs.Whole.{crash_law_holds}
 use Rattle.law_crash.specs.Points.{Point, StandsFor}
 use Rattle.fc_held.specs.Held.{HoldAllOf}
-use Rattle.fc_noted.specs.Noted.{HasRun, IsNotedAt}
+use Rattle.fc_noted.specs.Noted.{IsNotedAt}
+use Rattle.law_noted.specs.Runs.{HasRun}
 use Rattle.fc_noted.specs.declared.noted.Noted.{Noted}
 use Rattle.fc_held.proofs.Holding.{all_agree}
 
-pub rests : {D : Type 0} (seen : D → List ℕ) (may_leave : D → List ℕ → Type 0) (n : Noted D) (history : HistoryState) (w : Whole) (least : List Row) (asked : Option Request) →
+pub rests : {C D : Type 0} (seen : D → List ℕ) (may_leave : D → List ℕ → Type 0) (n : Noted C D) (history : HistoryState) (w : Whole) (least : List Row) (asked : Option Request) →
     (at : IsNotedAt seen may_leave n history w least) (back : List (List NamedDisk)) → w.entries ≤ 262144 → HoldAllOf n.named n.store.lanes back →
     Recoverable n.store.control.grain back (kept_in at.keeps.image) w least asked None
 rests seen may_leave n history w least asked at back few hold =

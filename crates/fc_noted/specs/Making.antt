@@ -38,6 +38,7 @@ use Rattle.fc_steps.specs.declared.stop.Stop.{Stop}
 use Rattle.fc_steps.specs.declared.stop.Stop.TheVariants.{Failed, NoMemory}
 use Rattle.fc_store.specs.Stepping.{lane_in}
 use Rattle.fc_held.specs.Held.{HaveVolumes, HoldAllOf}
+use Rattle.law_noted.specs.DataSteps.{Copies}
 use Rattle.fc_marks.specs.Marks.{is_open_any}
 use Rattle.fc_noted.specs.Noted.{GoesOnTo, IsAt, IsNotedAt}
 use Rattle.fc_noted.specs.Stopping.{HasStopped, LeavesRecoverable}
@@ -48,33 +49,17 @@ use Rattle.fc_noted.specs.declared.noted.UnderWay.{UnderWay}
 
 -- ---- what comes next of an entry
 
--- A move copies nothing where it is in place, or where the grain is lost of the volume that it reads, that of the slot's holder.
-abbrev pub lost_of : LaneView → ℕ → Option ℕ → Bool
-lost_of lane place None = true
-lost_of lane place (Some h) = is_lost (stored lane.grains.volumes (slot_at lane.chains.sheet.slots h).volume place)
-
-abbrev pub lost_for : LaneView → ℕ → Option ℕ → Bool
-lost_for lane place None = true
-lost_for lane place (Some k) = lost_of lane place (holder (column lane.chains.sheet.slots place) k)
-
-abbrev pub copies_nothing : LaneView → ℕ → Move → Bool
-copies_nothing lane place m = cond m.in_place true (lost_for lane place (birth_place lane.chains.sheet.slots m.slot.0))
-
 -- A move that is next copies something.
-abbrev pub Copies : LaneView → ℕ → Next → Type 0
-Copies lane place (NextMove m) = copies_nothing lane place m ≡ false
-Copies lane place next = Unit {0}
-
-abbrev pub CopiesNext : {D : Type 0} → Noted D → UnderWay → Type 0
+abbrev pub CopiesNext : {C D : Type 0} → Noted C D → UnderWay → Type 0
 CopiesNext n way = Copies (lane_in n.store way.place) way.doing.steps.place (next_of way.doing.steps)
 
 -- A write that is next is marked, where that is wanted.
-abbrev pub IsMarkedBy : {D : Type 0} → Noted D → UnderWay → Next → Type 0
+abbrev pub IsMarkedBy : {C D : Type 0} → Noted C D → UnderWay → Next → Type 0
 IsMarkedBy n way (Own part) =
-    is_open_any (lane_in n.store way.place).changes.rows n.marks part.volume way.doing.steps.grain way.doing.steps.place ≡ false
+    is_open_any (lane_in n.store way.place).changes.rows n.marks.items part.volume way.doing.steps.grain way.doing.steps.place ≡ false
 IsMarkedBy n way next = Unit {0}
 
-abbrev pub IsMarkedNext : {D : Type 0} → Noted D → UnderWay → Type 0
+abbrev pub IsMarkedNext : {C D : Type 0} → Noted C D → UnderWay → Type 0
 IsMarkedNext n way = IsMarkedBy n way (next_of way.doing.steps)
 
 -- The volume whose grain an entry that is over notes as changed.
@@ -96,11 +81,22 @@ volume_by (Clean m grain) written stop = None
 abbrev pub volume_noted : Steps → Option VolId
 volume_noted s = volume_by s.ask s.written s.stop
 
+-- ---- results
+
+-- That of a step that takes part of what is asked whenever it is made.
+abbrev pub always : Result (Unit {0}) NotedStop → Result Bool NotedStop
+always (Ok none) = Ok true
+always (Err stop) = Err stop
+
+-- That of a step that no error comes of.
+abbrev pub done : Result (Unit {0}) NotedStop
+done = Ok tt
+
 -- ---- an error behind an entry
 
-module _ {D : Type 0} (seen : D → List ℕ) (may_leave : D → List ℕ → Type 0) (moment : D → ℕ) (left_since : D → ℕ → List ℕ → Type 0) where
+module _ {C D : Type 0} (seen : D → List ℕ) (may_leave : D → List ℕ → Type 0) (moment : D → ℕ) (left_since : D → ℕ → List ℕ → Type 0) where
   -- An entry was logged, and memory was wanted behind it: what stands is what the history leads to with it.
-  pub record HasStoppedBehind (old new : Noted D) (before after : HistoryState) (w : Whole) : Type 0 where
+  pub record HasStoppedBehind (old new : Noted C D) (before after : HistoryState) (w : Whole) : Type 0 where
     pub entry : Entry
     pub next : Whole
     pub least : List Row
@@ -111,7 +107,7 @@ module _ {D : Type 0} (seen : D → List ℕ) (may_leave : D → List ℕ → Ty
         (image : MetaImage) × (recovered c ≡ Image image)
         × ((back : List (List NamedDisk)) → HoldAllOf new.named new.store.lanes back → Recoverable old.store.control.grain back (kept_in image) next least None None)
 
-  abbrev pub Stopped : Result Bool NotedStop → Noted D → Noted D → HistoryState → HistoryState → Whole → List Row → Type 0
+  abbrev pub Stopped : Result Bool NotedStop → Noted C D → Noted C D → HistoryState → HistoryState → Whole → List Row → Type 0
   Stopped result old new before after w least =
       ((after ≡ before) × HasStopped may_leave old new w least)
       ⊎ (IsErrOf result WantsMemory × HasStoppedBehind old new before after w)
@@ -119,25 +115,16 @@ module _ {D : Type 0} (seen : D → List ℕ) (may_leave : D → List ℕ → Ty
   -- ---- a step
 
   -- On Ok it goes on. At any moment, and behind an error, what a stop leaves may be recovered.
-  pub record StepMade (result : Result Bool NotedStop) (old new : Noted D) (before after : HistoryState) : Type 0 where
+  pub record StepMade (result : Result Bool NotedStop) (old new : Noted C D) (before after : HistoryState) : Type 0 where
     pub on : IfOk result (λ more. (w : Whole) (least : List Row) → IsAt seen may_leave old before w least → GoesOnTo seen may_leave more w least old before new after)
     pub any_moment : (w : Whole) (least : List Row) → IsAt seen may_leave old before w least →
         LeavesOnly moment left_since old.meta.disk new.meta.disk (LeavesRecoverable old new w least)
     pub stopped : OnErr result ((w : Whole) (least : List Row) → IsAt seen may_leave old before w least → Stopped result old new before after w least)
     pub full : IsErrOf result LogFull → 262144 ≤ length before.entries
 
-  -- The same of a step that takes part of what is asked whenever it is made.
-  abbrev pub always : Result (Unit {0}) NotedStop → Result Bool NotedStop
-  always (Ok none) = Ok true
-  always (Err stop) = Err stop
-
-  -- Of an entry that was taken out of the noted store.
-  abbrev pub WayMade : Result (Unit {0}) NotedStop → Noted D → UnderWay → Noted D → HistoryState → HistoryState → Type 0
+  -- The same of an entry that was taken out of the noted store.
+  abbrev pub WayMade : Result (Unit {0}) NotedStop → Noted C D → UnderWay → Noted C D → HistoryState → HistoryState → Type 0
   WayMade result old way new before after = StepMade (always result) (record old { under_way = Some way }) new before after
-
--- A step that no error comes of.
-abbrev pub done : Result (Unit {0}) NotedStop
-done = Ok tt
 
 -- ---- a command
 
@@ -148,27 +135,27 @@ pub record IsImageAfter (s : StoreView) (d : Decision) (image : MetaImage) : Typ
   pub as_was : (v : Volume) (g : ℕ) → Contains s.control.tables.volumes v → g < v.grains → Contains (map (λ (row : LostGrains). row.volume) lost) v.id.0 →
       is_lost_in lost v.id.0 g ≡ is_lost_at s.lanes v.id.0 g
 
-module _ {D : Type 0} (seen : D → List ℕ) (may_leave : D → List ℕ → Type 0) where
+module _ {C D : Type 0} (seen : D → List ℕ) (may_leave : D → List ℕ → Type 0) where
   -- Metadata was made anew by what the decision leaves: no write is marked, and all volumes have names.
-  pub record IsAnew (d : Decision) (old new : Noted D) : Type 0 where
+  pub record IsAnew (d : Decision) (old new : Noted C D) : Type 0 where
     pub rests : IsResting seen may_leave new.meta
     pub image : MetaImage
     pub found_is : found seen new.meta ≡ Image image
     pub after : IsImageAfter old.store d image
     pub named : new.named ≡ image.next_volume
-    pub unmarked : new.marks ≡ []
+    pub unmarked : new.marks.items ≡ []
 
   -- Where there is no action it stays.
-  abbrev pub AnewOr : Bool → Decision → Noted D → Noted D → Type 0
+  abbrev pub AnewOr : Bool → Decision → Noted C D → Noted C D → Type 0
   AnewOr true d old new = IsAnew d old new
-  AnewOr false d old new = (new.meta ≡ old.meta) × (new.named ≡ old.named) × (new.marks ≡ old.marks)
+  AnewOr false d old new = (new.meta ≡ old.meta) × (new.named ≡ old.named) × (new.marks.items ≡ old.marks.items)
 
   -- A crash meanwhile leaves what stood, or such an image.
-  abbrev pub LeavesAnew : Decision → Noted D → List ℕ → Type 0
+  abbrev pub LeavesAnew : Decision → Noted C D → List ℕ → Type 0
   LeavesAnew d old c = (recovered c ≡ found seen old.meta) ⊎ ((image : MetaImage) × (recovered c ≡ Image image) × IsImageAfter old.store d image)
 
   -- A command's entry leads on, once it is logged, to what the noted store then stands for.
-  abbrev pub LeadsOn : Noted D → HistoryState → Entry → Noted D → Type 0
+  abbrev pub LeadsOn : Noted C D → HistoryState → Entry → Noted C D → Type 0
   LeadsOn old before entry new =
       (w : Whole) (least : List Row) → IsNotedAt seen may_leave old before w least →
       (next : Whole) × (least_next : List Row) × Step old.store.control.grain w (record entry { number = w.entries }) next

@@ -37,6 +37,8 @@ use Rattle.law_crash.specs.Leaving.{AreUnnamed, HaveTheirDisks}
 use Rattle.law_crash.specs.Points.{Point, nothing_kept}
 use Rattle.law_crash.specs.Running.{Run}
 use Rattle.law_noted.specs.Came.{Came, steps_done}
+use Rattle.law_noted.specs.Records.{kept_by}
+use Rattle.law_noted.specs.Runs.{HasRun}
 use Rattle.fc_held.specs.Held.{HaveVolumes, MatchAll}
 use Rattle.fc_marks.specs.Marks.{marked}
 use Rattle.fc_noted.specs.declared.noted.Noted.{Noted}
@@ -54,38 +56,23 @@ pub record BeginsOver (count : ℕ) (disks : List DiskState) (s : StoreView) : T
   pub stands : StandsFor s (opened (pools_dealt LANES disks))
   pub disks_are : disks_in s.lanes ≡ pool_of disks
 
--- A history's entries were done on what stood on the disks at first, and led to a point.
-pub record HasRun (grain : GrainSize) (entries : List Entry) (w : Whole) (least : List Row) (p : Point) : Type 0 where
-  pub pools : List Pool
-  pub disks : List (List NamedDisk)
-  pub some : 0 < length pools
-  pub count : length disks ≡ length pools
-  pub unnamed : AreUnnamed (opened pools) disks
-  pub run : let first : Point = record { kept = nothing_kept; disks = disks } in Run grain (opened pools) [] first entries w least p
-  pub have : HaveTheirDisks w p.disks
-
--- Metadata with the record that is due, if one is.
-abbrev pub kept_by : Option MetaRecord → Kept → Kept
-kept_by None k = k
-kept_by (Some r) k = kept_after k r
-
-module _ {D : Type 0} (seen : D → List ℕ) (may_leave : D → List ℕ → Type 0) where
+module _ {C D : Type 0} (seen : D → List ℕ) (may_leave : D → List ℕ → Type 0) where
   -- Metadata stands for what a point keeps, all of it synced; its rows are those of the history, but for writes that are marked. And
   -- the disks of the point are those that the lanes hold, by metadata with the record that is due.
-  pub record Keeps (grain : GrainSize) (meta : Meta D) (n : Noted D) (w : Whole) (due : Option MetaRecord) (q : Point) : Type 0 where
+  pub record Keeps (grain : GrainSize) (meta : Meta D) (n : Noted C D) (w : Whole) (due : Option MetaRecord) (q : Point) : Type 0 where
     pub rests : IsResting seen may_leave meta
     pub image : MetaImage
     pub says : found seen meta ≡ Image image
     pub sound : IsSoundImage image
     pub good : HasGoodIds image
     pub kept : kept_in image ≡ q.kept
-    pub rows : q.kept.rows ≡ marked n.marks w.rows
+    pub rows : q.kept.rows ≡ marked n.marks.items w.rows
     pub named : n.named ≡ w.books.next_volume
     pub volumes : HaveVolumes n.disks n.store
     pub matches : MatchAll grain n.named (kept_by due q.kept) n.store.lanes q.disks
 
   -- No entry is under way: the store stands for what is told, and its disks and metadata for a point to which the history led.
-  pub record IsNotedAt (n : Noted D) (history : HistoryState) (w : Whole) (least : List Row) : Type 0 where
+  pub record IsNotedAt (n : Noted C D) (history : HistoryState) (w : Whole) (least : List Row) : Type 0 where
     pub idle : n.under_way ≡ None
     pub told : IsTold (StandsFor n.store) history w
     pub fits : Fits n.store.control.grain n.store.control.tables n.script
@@ -95,8 +82,9 @@ module _ {D : Type 0} (seen : D → List ℕ) (may_leave : D → List ℕ → Ty
 
   -- An entry is under way in one lane: the store stood for what is told when it began, and in that lane its steps came so far. The
   -- script asks it next.
-  pub record IsDoing (n : Noted D) (way : UnderWay) (history : HistoryState) (w : Whole) (least : List Row) : Type 0 where
+  pub record IsDoing (n : Noted C D) (way : UnderWay) (history : HistoryState) (w : Whole) (least : List Row) : Type 0 where
     pub begun : StoreView
+    pub few : w.entries ≤ 262144
     pub told : IsTold (StandsFor begun) history w
     pub inside : way.place < length begun.lanes
     pub since : n.store ≡ record begun { lanes = slice_set begun.lanes way.place (lane_in n.store way.place) }
@@ -114,16 +102,16 @@ module _ {D : Type 0} (seen : D → List ℕ) (may_leave : D → List ℕ → Ty
     pub came : Came begun.control.grain w (request_of way.doing.steps.ask) before.kept.rows steps before (steps_done way.doing.steps) way.doing.steps.stop way.due point
     pub keeps : Keeps begun.control.grain n.meta n w way.due point
 
-  abbrev pub IsAtBy : Option UnderWay → Noted D → HistoryState → Whole → List Row → Type 0
+  abbrev pub IsAtBy : Option UnderWay → Noted C D → HistoryState → Whole → List Row → Type 0
   IsAtBy None n history w least = IsNotedAt n history w least
   IsAtBy (Some way) n history w least = IsDoing n way history w least
 
   -- Either.
-  abbrev pub IsAt : Noted D → HistoryState → Whole → List Row → Type 0
+  abbrev pub IsAt : Noted C D → HistoryState → Whole → List Row → Type 0
   IsAt n history w least = IsAtBy n.under_way n history w least
 
   -- A step may be made.
-  pub record CanStep (n : Noted D) (history : HistoryState) : Type 0 where
+  pub record CanStep (n : Noted C D) (history : HistoryState) : Type 0 where
     pub live : n.live ≡ true
     pub w : Whole
     pub least : List Row
@@ -131,14 +119,14 @@ module _ {D : Type 0} (seen : D → List ℕ) (may_leave : D → List ℕ → Ty
     pub room : length history.entries ≤ 262144
 
   -- A step logged nothing, and what was told is told.
-  pub record Stays (w : Whole) (least : List Row) (old_history : HistoryState) (old new : Noted D) (new_history : HistoryState) : Type 0 where
+  pub record Stays (w : Whole) (least : List Row) (old_history : HistoryState) (old new : Noted C D) (new_history : HistoryState) : Type 0 where
     pub same : new_history ≡ old_history
     pub live : new.live ≡ true
     pub at : IsAt new new_history w least
     pub goes : GoesOn new.store.control.grain w (agenda_of new.store.control.grain old.script) (agenda_of new.store.control.grain new.script)
 
   -- Or it logged the entry of what the script asks next, and the script goes on behind it.
-  pub record Logs (w : Whole) (least : List Row) (old_history : HistoryState) (old new : Noted D) (new_history : HistoryState) : Type 0 where
+  pub record Logs (w : Whole) (least : List Row) (old_history : HistoryState) (old new : Noted C D) (new_history : HistoryState) : Type 0 where
     pub entry : Entry
     pub next : Whole
     pub least_next : List Row
@@ -151,7 +139,7 @@ module _ {D : Type 0} (seen : D → List ℕ) (may_leave : D → List ℕ → Ty
     pub at : IsAt new new_history next least_next
 
   -- True where something was left, which the step did a part of; false exactly where nothing is.
-  abbrev pub GoesOnTo : Bool → Whole → List Row → Noted D → HistoryState → Noted D → HistoryState → Type 0
+  abbrev pub GoesOnTo : Bool → Whole → List Row → Noted C D → HistoryState → Noted C D → HistoryState → Type 0
   GoesOnTo false w least old before new after =
       Stays w least before old new after × IsNext new.store.control.grain w None (agenda_of new.store.control.grain new.script)
   GoesOnTo true w least old before new after = Stays w least before old new after ⊎ Logs w least before old new after

@@ -57,21 +57,21 @@ abbrev pub MayHold : StoreView → StoreView → List LaneView → Type 0
 MayHold old new lanes = (lanes ≡ old.lanes) ⊎ ((lanes ≡ new.lanes) × HoldStill old.lanes new.lanes)
 
 -- A crash of the disk of metadata leaves an image, and with it what may be recovered.
-abbrev pub LeavesRecoverable : {D : Type 0} → Noted D → Noted D → Whole → List Row → List ℕ → Type 0
+abbrev pub LeavesRecoverable : {C D : Type 0} → Noted C D → Noted C D → Whole → List Row → List ℕ → Type 0
 LeavesRecoverable old new w least c =
     (image : MetaImage) × (recovered c ≡ Image image)
     × ((lanes : List LaneView) → MayHold old.store new.store lanes →
     MayBeRecovered old.store.control.grain old.script old.named lanes w least image)
 
 -- Behind an error: whatever a crash leaves now, with what the lanes hold now. The disks can be given back.
-pub record HasStopped {D : Type 0} (may_leave : D → List ℕ → Type 0) (old new : Noted D) (w : Whole) (least : List Row) : Type 0 where
+pub record HasStopped {C D : Type 0} (may_leave : D → List ℕ → Type 0) (old new : Noted C D) (w : Whole) (least : List Row) : Type 0 where
   pub volumes : HaveVolumes new.disks new.store
   pub leaves : (c : List ℕ) → may_leave new.meta.disk c →
       (image : MetaImage) × (recovered c ≡ Image image) × MayBeRecovered old.store.control.grain old.script new.named new.store.lanes w least image
 
 -- Whatever a crash leaves now is an image with which, whatever the lanes give back, what is told may be recovered, with something that
 -- was asked and isn't answered, if anything was. The disks can be given back.
-pub record Leaves {D : Type 0} (may_leave : D → List ℕ → Type 0) (n : Noted D) (w : Whole) : Type 0 where
+pub record Leaves {C D : Type 0} (may_leave : D → List ℕ → Type 0) (n : Noted C D) (w : Whole) : Type 0 where
   pub volumes : HaveVolumes n.disks n.store
   pub found : (c : List ℕ) → may_leave n.meta.disk c →
       (image : MetaImage) × (recovered c ≡ Image image) × IsSoundImage image
@@ -80,7 +80,7 @@ pub record Leaves {D : Type 0} (may_leave : D → List ℕ → Type 0) (n : Note
       × Recoverable n.store.control.grain back (kept_in image) w least request one)
 
 -- A line that isn't answered to its end: its first entries were logged, for the history's limit all that there is room for.
-abbrev pub LineHalts : {D : Type 0} → (may_leave : D → List ℕ → Type 0) → Reading → NotedStop → Noted D → Noted D → List ℕ → Whole → HistoryState → HistoryState → Type 0
+abbrev pub LineHalts : {C D : Type 0} → (may_leave : D → List ℕ → Type 0) → Reading → NotedStop → Noted C D → Noted C D → List ℕ → Whole → HistoryState → HistoryState → Type 0
 LineHalts may_leave read LogFull old new bytes w before after =
     (length after.entries ≡ 262144)
     × ((next : Whole) × IsOf next after × Leaves may_leave new next
@@ -90,11 +90,11 @@ LineHalts may_leave read stop old new bytes w before after =
     × Adds before after (λ more. GoesSome (session_rules old.store.control.grain read) (Session (single bytes ∷ [])) w more next)
 
 -- The disk of metadata behind `open`; and before the first image stands, a crash leaves it or none.
-abbrev pub opened_meta : {D : Type 0} → Result (Noted D) (D × NotedStop) → D
+abbrev pub opened_meta : {C D : Type 0} → Result (Noted C D) (D × NotedStop) → D
 opened_meta (Ok n) = n.meta.disk
 opened_meta (Err e) = e.0
 
-abbrev pub over_meta : {D S : Type 0} → Result (Noted D) (S × D × NotedStop) → D
+abbrev pub over_meta : {C D S : Type 0} → Result (Noted C D) (S × D × NotedStop) → D
 over_meta (Ok n) = n.meta.disk
 over_meta (Err e) = e.1
 

@@ -96,8 +96,8 @@ impl<D: Mdisk, M: MetaDisk> Noted<D, M> {
         ensures found { OnOk result (found M.seen self.new.meta ≡ Image image.now) }
         ensures any_moment { LeavesOnly M.moment M.left_since (disk_of self.old.meta) (disk_of self.new.meta)
             (LeavesEither (found M.seen self.old.meta) (Image image.now)) }
-        ensures named { OnOk result ((self.new.named ≡ image.now.next_volume) × (self.new.marks ≡ [])) }
-        ensures kept { OnErr result ((self.new.named ≡ self.old.named) × (self.new.marks ≡ self.old.marks)) }
+        ensures named { OnOk result ((self.new.named ≡ image.now.next_volume) × (self.new.marks.items ≡ [])) }
+        ensures kept { OnErr result ((self.new.named ≡ self.old.named) × (self.new.marks.items ≡ self.old.marks.items)) }
         ensures others { self.new ≡ record self.old { meta = self.new.meta; named = self.new.named; marks = self.new.marks } }
     {
         self.meta.fold(self.alloc, image)?;

@@ -4,8 +4,9 @@ ghost use Rattle.std.specs.Prelude.{◌≡◌, ◌≢◌, ◌≤◌, ◌↔◌, 
 ghost use Rattle.fc_changed.specs.Row.{Row};
 ghost use Rattle.fc_entry.specs.HistoryState.{HistoryState};
 ghost use Rattle.fc_legal.specs.Whole.{Whole};
-ghost use Rattle.fc_noted.specs.Making.{CopiesNext, IsMarkedNext, StepMade, WayMade, copies_nothing, done, volume_noted};
+ghost use Rattle.fc_noted.specs.Making.{CopiesNext, IsMarkedNext, StepMade, WayMade, done, volume_noted};
 ghost use Rattle.fc_noted.specs.Noted.{CanStep, IsDoing};
+ghost use Rattle.law_noted.specs.DataSteps.{copies_nothing};
 ghost use Rattle.law_noted.specs.Records.{record_after};
 ghost use Rattle.fc_steps.specs.UnderWay.{next_of};
 ghost use Rattle.fc_steps.specs.declared.stepping.Next.TheVariants.{Move as NextMove, Own, Over};
@@ -115,6 +116,7 @@ impl<D: Mdisk, M: MetaDisk> Noted<D, M> {
     /// Puts the record of the last step of data.
     fn put_due(&mut self, way: UnderWay, note: MetaRecord) -> Result<(), NotedStop>
         requires at { (w : Whole) × (least : List Row) × (history : HistoryState) × IsDoing M.seen M.may_leave self.old way history w least }
+        requires live { self.old.live ≡ true }
         requires due { way.due ≡ Some note }
         ensures made { (history : HistoryState) → WayMade M.seen M.may_leave M.moment M.left_since result self.old way self.new history history }
         ensures live { self.new.live ≡ self.old.live }
@@ -132,6 +134,7 @@ impl<D: Mdisk, M: MetaDisk> Noted<D, M> {
     /// Whether a move copies nothing: its slot has the grain on its own disk already, or the grain is lost where it would be read.
     fn copies_nothing(&self, way: &UnderWay, mv: &Move) -> bool
         requires at { (w : Whole) × (least : List Row) × (history : HistoryState) × IsDoing M.seen M.may_leave self.now way.now history w least }
+        requires due { way.now.due ≡ None }
         requires next { next_of way.now.doing.steps ≡ NextMove mv.now }
         ensures { result ≡ copies_nothing (lane_in self.now.store way.now.place) way.now.doing.steps.place mv.now }
     {
@@ -149,6 +152,7 @@ impl<D: Mdisk, M: MetaDisk> Noted<D, M> {
     /// A move. One that copies nothing calls no disk of data: its record is put before it is made.
     fn make_move(&mut self, way: UnderWay, mv: Move) -> Result<(), NotedStop>
         requires at { (w : Whole) × (least : List Row) × (history : HistoryState) × IsDoing M.seen M.may_leave self.old way history w least }
+        requires live { self.old.live ≡ true }
         requires due { way.due ≡ None }
         requires next { next_of way.doing.steps ≡ NextMove mv }
         ensures made { (history : HistoryState) → WayMade M.seen M.may_leave M.moment M.left_since result self.old way self.new history history }
@@ -186,6 +190,7 @@ impl<D: Mdisk, M: MetaDisk> Noted<D, M> {
     /// The write itself: it is marked first, where by metadata a row that names its volume has its grain as the same.
     fn own(&mut self, way: UnderWay, part: WritePart) -> Result<(), NotedStop>
         requires at { (w : Whole) × (least : List Row) × (history : HistoryState) × IsDoing M.seen M.may_leave self.old way history w least }
+        requires live { self.old.live ≡ true }
         requires due { way.due ≡ None }
         requires next { next_of way.doing.steps ≡ Own part }
         ensures made { (history : HistoryState) → WayMade M.seen M.may_leave M.moment M.left_since result self.old way self.new history history }
@@ -212,6 +217,7 @@ impl<D: Mdisk, M: MetaDisk> Noted<D, M> {
     /// A step of data. Its record waits then.
     fn data_step(&mut self, way: UnderWay)
         requires at { (w : Whole) × (least : List Row) × (history : HistoryState) × IsDoing M.seen M.may_leave self.old way history w least }
+        requires live { self.old.live ≡ true }
         requires due { way.due ≡ None }
         requires next { next_of way.doing.steps ≢ Over }
         requires marked { IsMarkedNext self.old way }
@@ -234,6 +240,7 @@ impl<D: Mdisk, M: MetaDisk> Noted<D, M> {
     /// The entry of steps that are over is logged.
     fn finish(&mut self, way: UnderWay, history: &mut History) -> Result<(), NotedStop>
         requires at { (w : Whole) × (least : List Row) × IsDoing M.seen M.may_leave self.old way history.old w least }
+        requires live { self.old.live ≡ true }
         requires due { way.due ≡ None }
         requires over { next_of way.doing.steps ≡ Over }
         requires room { length history.old.entries ≤ 262144 }

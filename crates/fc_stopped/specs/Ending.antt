@@ -33,7 +33,7 @@ abbrev pub all_disks : List (List NamedDisk) → List DiskState
 all_disks lanes = flat_map (map (λ (d : NamedDisk). d.disk)) lanes
 
 -- A noted store before the first line, over these disks, of which the disk of metadata stops at this call.
-pub record IsOpened (call : ℕ) (n : Noted StopState) (first : Whole) (old : List DiskState) : Type 0 where
+pub record IsOpened {C : Type 0} (call : ℕ) (n : Noted C StopState) (first : Whole) (old : List DiskState) : Type 0 where
   pub stops : n.meta.disk.stop ≡ call
   pub live : n.live ≡ true
   pub grain : n.store.control.grain ≡ K64

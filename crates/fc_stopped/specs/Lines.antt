@@ -39,8 +39,8 @@ stop_told MetaFailed = WantsMemory
 stop_told MetaFull = WantsMemory
 
 -- A line is answered to its end; or its first entries are there.
-module _ {D : Type 0} (seen : D → List ℕ) (may_leave : D → List ℕ → Type 0) where
-  abbrev pub LineIsAnswered : Result (Unit {0}) NotedStop → Noted D → Noted D → List ℕ → Whole → HistoryState → HistoryState → Type 0
+module _ {C D : Type 0} (seen : D → List ℕ) (may_leave : D → List ℕ → Type 0) where
+  abbrev pub LineIsAnswered : Result (Unit {0}) NotedStop → Noted C D → Noted C D → List ℕ → Whole → HistoryState → HistoryState → Type 0
   LineIsAnswered (Ok done) old new bytes w before after =
       (new.live ≡ true) × (new.store.control.grain ≡ old.store.control.grain)
       × ((next : Whole) × (least : List Row) × IsNotedAt seen may_leave new after next least
@@ -48,7 +48,7 @@ module _ {D : Type 0} (seen : D → List ℕ) (may_leave : D → List ℕ → Ty
   LineIsAnswered (Err stop) old new bytes w before after = LineHalts may_leave reading stop old new bytes w before after
 
   -- What is said of the lines so far.
-  abbrev pub noted_runs : Noted D → Option NotedStop → Start → Runs
+  abbrev pub noted_runs : Noted C D → Option NotedStop → Start → Runs
   noted_runs n stop start = record {
     Whole = λ lines history. (stop ≡ None) × (n.live ≡ true) × (n.store.control.grain ≡ start.grain) ×
         Answers start.grain start.first lines history (λ last. (least : List Row) × IsNotedAt seen may_leave n history last least);

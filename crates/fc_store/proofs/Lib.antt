@@ -5,3 +5,4 @@ pub mod InLane
 pub mod GoingOn
 pub mod Planning
 pub mod Coming
+pub mod AtPlace

@@ -560,7 +560,12 @@ fn a_line_of_a_preset_that_comes_otherwise_is_wrong(rt: HostRuntime) -> Result<(
     let left_out = [SNAPSHOT.makes(), SNAPSHOT.starts()];
     SNAPSHOT.judged(&rt, alloc, &left_out, wrong_at(2, Why::Request))?;
     let behind_a_refusal = [SNAPSHOT.volume(Answer::NoDisk), SNAPSHOT.maps()];
-    SNAPSHOT.judged(&rt, alloc, &behind_a_refusal, wrong_at(2, Why::NothingAsked))?;
+    SNAPSHOT.judged(
+        &rt,
+        alloc,
+        &behind_a_refusal,
+        wrong_at(2, Why::NothingAsked),
+    )?;
     let started_again = [CLONE.makes(), CLONE.maps(), CLONE.starts(), CLONE.starts()];
     CLONE.judged(&rt, alloc, &started_again, wrong_at(4, Why::NothingAsked))?;
     for mapping in [

@@ -35,8 +35,13 @@ finds_behind grain w r chains (Note n ∷ rest) back p q one x paired did finds 
 finds_behind grain w r chains (Fold ∷ rest) back p q one x paired did finds = absurd paired
 finds_behind grain w r chains (Data step ∷ []) back p q one x paired did finds = absurd paired
 finds_behind grain w r chains (Data step ∷ Note n ∷ rest) back p q one x paired did finds =
-    inr (inr (did.0, did.1, did.2.0, did.2.1,
-    finds_behind grain w r (sheet_kept chains n) rest back (noted n (with_kept did.2.0 (with_disks did.0 p))) q one x paired did.2.2 finds))
+    inr (inr (
+      did.0,
+      did.1,
+      did.2.0,
+      did.2.1,
+      finds_behind grain w r (sheet_kept chains n) rest back (noted n (with_kept did.2.0 (with_disks did.0 p))) q one x paired did.2.2 finds,
+    ))
 finds_behind grain w r chains (Data step ∷ Data other ∷ rest) back p q one x paired did finds = absurd paired
 finds_behind grain w r chains (Data step ∷ Fold ∷ rest) back p q one x paired did finds = absurd paired
 

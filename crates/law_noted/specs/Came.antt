@@ -1,5 +1,5 @@
 -- How far the actions of an entry came.
-use Rattle.std.specs.Prelude.{◌≡◌, ℕ, ◌+◌, ◌≤◌, cond, List, [], ◌∷◌, ◌++◌, length, Option, Some, None}
+use Rattle.std.specs.Prelude.{◌≡◌, ℕ, ◌+◌, ◌≤◌, Bool, cond, List, [], ◌∷◌, ◌++◌, length, Option, Some, None}
 use Rattle.fc_base.specs.declared.request.Request.{Request}
 use Rattle.fc_base.specs.declared.request.Torn.{Torn as TornGrain}
 use Rattle.fc_base.specs.declared.size.GrainSize.{GrainSize}
@@ -16,9 +16,13 @@ use Rattle.fc_steps.specs.declared.stop.Stop.TheVariants.{Failed}
 use Rattle.law_crash.specs.Doing.{Did, Stopped, actions_of_step, actions_of_steps, chains_behind, marks_by_move, number_of}
 use Rattle.law_crash.specs.Points.{Point}
 
--- How many steps were done: the moves that were made, and the write itself.
+-- How many steps were done: the moves that were made, and the write itself, where no step stopped.
+abbrev pub own_done : Option Stop → Bool → ℕ
+own_done None written = cond written 1 0
+own_done (Some stop) written = 0
+
 abbrev pub steps_done : Steps → ℕ
-steps_done s = s.made + cond s.written 1 0
+steps_done s = s.made + own_done s.stop s.written
 
 -- By how many steps were done, why the next one stopped, and the record that is due: what stands then. The rows are those of metadata when the entry began.
 pub data Came (grain : GrainSize) (w : Whole) (request : Request) (rows : List Row) (steps : List DiskStep) (p : Point) : ℕ → Option Stop → Option MetaRecord → Point → Type 0 where
@@ -30,8 +34,8 @@ pub data Came (grain : GrainSize) (w : Whole) (request : Request) (rows : List R
   marked : (front : List DiskStep) (own : DiskStep) (q : Point) → steps ≡ front ++ own ∷ [] → own.move ≡ None →
       Did grain w request w.books.sheet (actions_of_steps rows (number_of grain request) front ++ mark_of rows own.volume (number_of grain request)) p q →
       Came grain w request rows steps p (length front) None None q
-  -- all actions of them but the last record, which waits
-  waits : (front back : List DiskStep) (step : DiskStep) (first : List Action) (r : MetaRecord) (q : Point) → steps ≡ front ++ step ∷ back →
+  -- all actions of them but the last record, which waits behind the data of its step
+  waits : (front back : List DiskStep) (step : DiskStep) (first : List Action) (r : MetaRecord) (q : Point) → steps ≡ front ++ step ∷ back → 1 ≤ step.calls →
       actions_of_step rows (number_of grain request) step ≡ first ++ Note r ∷ [] →
       Did grain w request w.books.sheet (actions_of_steps rows (number_of grain request) front ++ first) p q →
       Came grain w request rows steps p (length front + 1) None (Some r) q

@@ -6,6 +6,7 @@ use Rattle.fc_base.specs.declared.ids.GrainNo.{GrainNo}
 use Rattle.fc_base.specs.declared.ids.VolId.{VolId}
 use Rattle.fc_image.specs.declared.record.MetaRecord.{MetaRecord}
 use Rattle.fc_image.specs.declared.record.MetaRecord.TheVariants.{Pair, Written, Torn}
+use Rattle.fc_kept.specs.Kept.{Kept, kept_after}
 use Rattle.fc_steps.specs.declared.body.StepEnd.{StepEnd}
 use Rattle.fc_steps.specs.declared.stepping.Next.{Next}
 use Rattle.fc_steps.specs.declared.stepping.Next.TheVariants.{Move as NextMove, Own, Over}
@@ -27,6 +28,11 @@ record_by next (Some NoMemory) calls grain = None
 
 abbrev pub record_after : Next → StepEnd → GrainNo → Option MetaRecord
 record_after next end grain = record_by next end.stop end.calls grain
+
+-- Metadata with the record that is due, if one is.
+abbrev pub kept_by : Option MetaRecord → Kept → Kept
+kept_by None k = k
+kept_by (Some r) k = kept_after k r
 
 -- The volume that goes by events, if one does.
 abbrev pub removed_by : List LaneEvent → Option VolId

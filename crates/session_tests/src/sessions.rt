@@ -122,16 +122,7 @@ fn run_between<R: Threads + Wait + Sync, D: Mdisk + Send, G: Gate>(
 {
     let mut history = History::new(alloc);
     let words = ["run", "--grain", grain];
-    let status = flashcopy_over(
-        rt,
-        alloc,
-        &words,
-        source,
-        sink,
-        disks,
-        gate,
-        &mut history,
-    );
+    let status = flashcopy_over(rt, alloc, &words, source, sink, disks, gate, &mut history);
     Ended {
         status,
         entries: history.len(),

@@ -1,0 +1,2 @@
+-- Lemmas on what is put into metadata.
+pub mod Leaving

@@ -1,0 +1,36 @@
+use Rattle.std.proofs.Common.{◌+◌, ◌∷◌, [], length, ap}
+use Rattle.std.proofs.lemmas.Result.{err_from_is_err_and}
+use Rattle.fc_format.specs.Bytes.{batch_bytes}
+use Rattle.fc_format.specs.Halves.{Found}
+use Rattle.fc_meta.specs.Answers.{found_with}
+use Rattle.fc_meta.specs.States.{disk_of, found, room_of, used_of}
+use Rattle.fc_marks.proofs.Leaving.{goes_on, has_failed, was_full, has_risen, fits_then}
+use Rattle.fc_marks.proofs.putting.put_record.Goals as goal
+
+pub returns-in_err-put-clause-full : goal.returns-in_err-put-clause-full
+returns-in_err-put-clause-full g c =
+    let p = err_from_is_err_and c.from_residual.result c.from_residual.ensures.1 in
+    rw (p.1, p.2) (λ told image is. absurd (fits_then c.fits.result (used_of c.args.meta.now + 1 + length (batch_bytes (c.args.note ∷ []))) (room_of g.M.MetaDisk.seen c.args.meta.now)
+    c.fits.ensures c.if-fits.true (c.in_err-put.ensures.full.0 (was_full c.in_err-put.field-0.0 told))))
+
+pub returns-in_err-put-2-clause-any_moment : goal.returns-in_err-put-2-clause-any_moment
+returns-in_err-put-2-clause-any_moment g c =
+    goes_on g.M.MetaDisk.seen g.M.MetaDisk.may_leave g.M.MetaDisk.moment g.M.MetaDisk.left_since (disk_of c.args.meta.now) (disk_of c.fold_same.new.meta) (disk_of c.put-2.new.self)
+    (found g.M.MetaDisk.seen c.args.meta.now) (found g.M.MetaDisk.seen c.fold_same.new.meta) (found_with (found g.M.MetaDisk.seen c.fold_same.new.meta) (c.args.note ∷ []))
+    (found_with (found g.M.MetaDisk.seen c.args.meta.now) (c.args.note ∷ []))
+    c.in_ok-fold_same.ensures.found (ap (λ (f : Found). found_with f (c.args.note ∷ [])) c.in_ok-fold_same.ensures.found)
+    c.in_ok-fold_same.ensures.any_moment c.in_err-put-2.ensures.treats.any_moment
+
+pub returns-in_err-put-2-clause-failed : goal.returns-in_err-put-2-clause-failed
+returns-in_err-put-2-clause-failed g c =
+    let p = err_from_is_err_and c.from_residual-in_err-put-2.result c.from_residual-in_err-put-2.ensures.1 in
+    rw (p.1, p.2) (λ told. has_risen (g.M.MetaDisk.fault_count (disk_of c.args.meta.now)) (g.M.MetaDisk.fault_count (disk_of c.fold_same.new.meta)) (g.M.MetaDisk.fault_count (disk_of c.put-2.new.self))
+    c.in_ok-fold_same.ensures.quiet (c.in_err-put-2.ensures.treats.asks.failed (has_failed c.in_err-put-2.field-0.0 told)))
+
+pub returns-clause-any_moment : goal.returns-clause-any_moment
+returns-clause-any_moment g c =
+    goes_on g.M.MetaDisk.seen g.M.MetaDisk.may_leave g.M.MetaDisk.moment g.M.MetaDisk.left_since (disk_of c.args.meta.now) (disk_of c.fold_same.new.meta) (disk_of c.put-2.new.self)
+    (found g.M.MetaDisk.seen c.args.meta.now) (found g.M.MetaDisk.seen c.fold_same.new.meta) (found_with (found g.M.MetaDisk.seen c.fold_same.new.meta) (c.args.note ∷ []))
+    (found_with (found g.M.MetaDisk.seen c.args.meta.now) (c.args.note ∷ []))
+    c.in_ok-fold_same.ensures.found (ap (λ (f : Found). found_with f (c.args.note ∷ [])) c.in_ok-fold_same.ensures.found)
+    c.in_ok-fold_same.ensures.any_moment c.in_ok-put-2.ensures.treats.any_moment

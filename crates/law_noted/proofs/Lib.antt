@@ -1,0 +1,27 @@
+-- Lemmas, one subject a file.
+pub mod DataActions
+pub mod Along
+pub mod Once
+pub mod Places
+pub mod NextSteps
+pub mod DataCame
+pub mod DataEnds
+pub mod DataMoves
+pub mod DataInHand
+pub mod DataNext
+pub mod DataWhole
+pub mod Acting
+pub mod Nexts
+pub mod Recording
+pub mod MarkRows
+pub mod Marking
+pub mod Losing
+pub mod Parts
+pub mod Tearing
+pub mod Finding
+pub mod Ending
+pub mod Advancing
+pub mod HandNext
+pub mod HandOn
+pub mod HandMoved
+pub mod HandEnds
