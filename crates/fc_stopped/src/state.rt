@@ -8,6 +8,7 @@ ghost use Rattle.fc_kept.specs.Sound.{IsSoundImage};
 ghost use Rattle.fc_recovered.specs.Recovered.{CanRecover};
 ghost use Rattle.fc_stopped.specs.Far.{status_unwritten};
 ghost use Rattle.fc_stopped.specs.Recovering.{IsFirstText, IsFound, IsFoundGood, IsImageText, IsStateText, KeepKinds};
+ghost use Rattle.fc_stopped.specs.declared.state.Unwritten.TheVariants.{Failed as SinkFailed, NoMemory as WantsMemory};
 ghost use Rattle.fc_stopped.specs.Putting.{IsPutOr, ReadsPut, StateIsPut};
 ghost use Rattle.fc_stopped.specs.Text.{lines_text, no_image, read_text, rows_in};
 
@@ -99,7 +100,7 @@ impl Unwritten {
 }
 
 impl From<Failed> for Unwritten {
-    ghost from_gives = { λ failed e. e ≡ Unwritten.Failed };
+    ghost from_gives = { λ failed e. e ≡ SinkFailed };
 
     fn from(_failed: Failed) -> Unwritten {
         Unwritten::Failed
@@ -107,7 +108,7 @@ impl From<Failed> for Unwritten {
 }
 
 impl From<NoMemory> for Unwritten {
-    ghost from_gives = { λ wanted e. e ≡ Unwritten.NoMemory };
+    ghost from_gives = { λ wanted e. e ≡ WantsMemory };
 
     fn from(_wanted: NoMemory) -> Unwritten {
         Unwritten::NoMemory

@@ -1,124 +1,228 @@
 //! A session that is drawn by a number.
 //!
-//! Five small volumes come first, two of them thin, then eight mappings, some of them incremental and three in a group; then lines that
-//! write, read, start, stop, make and remove, let time pass, and, where that is asked, arm faults.
+//! Four volumes of a few grains come first, flat or thin, and five mappings among them, which chain, fan out or lead back; some are
+//! incremental, and two may be in a group. The first mappings are started between writes. The drawn lines behind them write, read,
+//! start, restore, stop, split, make and remove, let time pass, and, where that is asked, arm faults.
 
 use crate::draws::Draws;
 use std::alloc::{AllocError, Global};
 
-/// The lines that are drawn.
-const LINES: u32 = 45;
+/// The lines of a session.
+const LINES: u32 = 60;
 
-/// The volumes, and the blocks of each that a line may name.
-const VOLUMES: u32 = 5;
+/// The volumes.
+const VOLUMES: u32 = 4;
 
-const BLOCKS: u32 = 384;
+/// The mappings: each a source and a target.
+const CHAINS: [[(u32, u32); 5]; 5] = [
+    [(0, 1), (1, 2), (2, 3), (1, 0), (0, 3)],
+    [(0, 1), (1, 2), (0, 3), (2, 0), (1, 3)],
+    [(0, 1), (0, 2), (0, 3), (1, 0), (2, 1)],
+    [(0, 1), (1, 2), (2, 0), (2, 3), (3, 1)],
+    [(3, 2), (2, 1), (1, 0), (2, 3), (3, 0)],
+];
 
-/// How many mappings a line may name.
-const MAPPINGS: u32 = 10;
-
-/// The lines that every session begins with.
-const FIRST_LINES: &str = "mkvdisk -name V0 -size 192 -unit kb -thin
-mkvdisk -name V1 -size 192 -unit kb -thin
-mkvdisk -name V2 -size 192 -unit kb
-mkvdisk -name V3 -size 192 -unit kb -thin
-mkvdisk -name V4 -size 192 -unit kb -thin
-mkfcconsistgrp -name g
-mkfcmap -source V0 -target V1 -incremental
-mkfcmap -source V1 -target V0 -incremental
-mkfcmap -source V1 -target V2 -copyrate 0 -cleanrate 100
-mkfcmap -source V2 -target V3 -copyrate 30
-mkfcmap -source V0 -target V3 -copyrate 100 -incremental
-mkfcmap -source V0 -target V4 -consistgrp g
-mkfcmap -source V1 -target V3 -consistgrp g -copyrate 0
-mkfcmap -source V3 -target V2 -consistgrp g
-write V0 0 384 10
-write V1 0 300 21
-";
+/// Blocks of a grain.
+const GRAIN_BLOCKS: u32 = 128;
 
 /// A session that is being written.
 #[derive(Drop)]
 struct Session {
     text: String,
+    lines: u32,
     draws: Draws,
+    grains: u32,
+    grouped: bool,
+    faults: bool,
 }
 
 impl Session {
-    /// A write, often in more than one grain, or a read.
-    fn add_access(&mut self) -> Result<(), AllocError> {
-        let volume = self.draws.below(VOLUMES);
-        let first = self.draws.below(BLOCKS);
-        let most = if self.draws.below(4) == 0 { 260 } else { 8 };
-        let count = self.draws.below(most).saturating_add(1);
-        let byte = self.draws.below(256);
-        match self.draws.below(6) {
-            0 => write!(self.text, "read V{volume} {first} {count}\n"),
-            _ => write!(self.text, "write V{volume} {first} {count} {byte:02x}\n"),
+    /// One of two texts, the first so often of a hundred.
+    fn either(&mut self, percent: u32, first: &'static str, other: &'static str) -> &'static str {
+        if self.draws.below(100) < percent {
+            first
+        } else {
+            other
         }
     }
 
-    /// A command on a mapping or on the group.
-    fn add_command(&mut self) -> Result<(), AllocError> {
-        let map = self.draws.below(MAPPINGS);
-        match self.draws.below(14) {
-            0..=5 => write!(self.text, "startfcmap -prep -restore {map}\n"),
-            6 => write!(self.text, "prestartfcmap -restore {map}\n"),
-            7 => write!(self.text, "startfcmap -restore {map}\n"),
-            8 => write!(self.text, "stopfcmap {map}\n"),
-            9 => write!(self.text, "stopfcmap -force {map}\n"),
-            10 => write!(self.text, "stopfcmap -split {map}\n"),
-            11 => self.text.push_str("startfcconsistgrp -prep -restore g\n"),
-            12 => self.text.push_str("stopfcconsistgrp g\n"),
-            _ => write!(self.text, "rmfcmap -force {map}\n"),
-        }
+    /// A line ends.
+    fn end(&mut self) -> Result<(), AllocError> {
+        self.lines = self.lines.saturating_add(1);
+        self.text.push_str("\n")
     }
 
-    /// A line that makes or removes an object, or reports.
-    fn add_object(&mut self) -> Result<(), AllocError> {
-        let source = self.draws.below(VOLUMES);
-        let target = self.draws.below(VOLUMES);
-        match self.draws.below(8) {
-            0 => self.text.push_str("mkvdisk -size 128 -unit kb\n"),
-            1 => self.text.push_str("mkvdisk -size 64 -unit kb -thin\n"),
-            2..=4 => write!(
+    /// The volumes.
+    fn add_volumes(&mut self) -> Result<(), AllocError> {
+        for volume in 0..VOLUMES {
+            let kind = self.either(67, " -thin", "");
+            let size = self.grains.saturating_mul(64);
+            write!(
                 self.text,
-                "mkfcmap -source V{source} -target V{target} -autodelete -copyrate 90\n"
-            ),
-            5 => write!(self.text, "rmvdisk -force V{target}\n"),
-            6 => self.text.push_str("lsfcmap -delim :\n"),
-            _ => write!(self.text, "startfcmap -prep\n"),
+                "mkvdisk -name V{volume} -size {size} -unit kb{kind}"
+            )?;
+            self.end()?;
         }
+        Ok(())
+    }
+
+    /// A mapping.
+    fn add_mapping(&mut self, place: u32, pair: (u32, u32), rate: u32) -> Result<(), AllocError> {
+        let (source, target) = pair;
+        let incremental = self.either(50, " -incremental", "");
+        let copies = self.either(rate, " -copyrate 100", " -copyrate 0");
+        let gone = self.either(6, " -autodelete", "");
+        let cleans = self.either(20, " -cleanrate 100", "");
+        let group = if self.grouped && place >= 3 {
+            " -consistgrp g"
+        } else {
+            ""
+        };
+        write!(
+            self.text,
+            "mkfcmap -source V{source} -target V{target}{incremental}{copies}{gone}{cleans}{group}"
+        )?;
+        self.end()
+    }
+
+    /// The mappings.
+    fn add_mappings(&mut self) -> Result<(), AllocError> {
+        if self.grouped {
+            self.text.push_str("mkfcconsistgrp -name g")?;
+            self.end()?;
+        }
+        let rate = if self.draws.below(4) == 0 { 50 } else { 25 };
+        let chain = usize::try_from(self.draws.below(5)).unwrap_or(0);
+        for place in 0..5 {
+            let pair = CHAINS[chain][usize::try_from(place).unwrap_or(0)];
+            self.add_mapping(place, pair, rate)?;
+        }
+        Ok(())
+    }
+
+    /// A write somewhere, often in more than one grain.
+    fn add_write(&mut self) -> Result<(), AllocError> {
+        let volume = self.draws.below(VOLUMES);
+        let blocks = self.grains.saturating_mul(GRAIN_BLOCKS);
+        let first = self.draws.below(blocks);
+        let most = if self.draws.below(3) == 0 { 300 } else { 28 };
+        let count = self
+            .draws
+            .below(most)
+            .saturating_add(1)
+            .min(blocks.saturating_sub(first));
+        let byte = self.draws.below(255).saturating_add(1);
+        write!(self.text, "write V{volume} {first} {count} {byte:02x}")?;
+        self.end()
+    }
+
+    /// An armed fault, and a write of that grain.
+    fn add_fault(&mut self) -> Result<(), AllocError> {
+        if !self.faults {
+            return self.add_write();
+        }
+        let volume = self.draws.below(VOLUMES);
+        let grain = self.draws.below(self.grains);
+        let calls = self.draws.below(4).saturating_add(1);
+        write!(self.text, "armfault V{volume} {grain} {calls}")?;
+        self.end()?;
+        let volume = if self.draws.below(2) == 0 {
+            volume
+        } else {
+            self.draws.below(VOLUMES)
+        };
+        let first = grain
+            .saturating_mul(GRAIN_BLOCKS)
+            .saturating_add(self.draws.below(100));
+        write!(
+            self.text,
+            "write V{volume} {first} 20 {:02x}",
+            self.draws.below(256)
+        )?;
+        self.end()
+    }
+
+    /// A mapping is started.
+    fn add_start(&mut self, map: u32) -> Result<(), AllocError> {
+        write!(self.text, "startfcmap -prep -restore {map}")?;
+        self.end()
+    }
+
+    /// A mapping is stopped, or the group is started or stopped.
+    fn add_stop(&mut self, map: u32) -> Result<(), AllocError> {
+        match self.draws.below(6) {
+            0..=1 => write!(self.text, "stopfcmap {map}")?,
+            2 => write!(self.text, "stopfcmap -force {map}")?,
+            3 => write!(self.text, "stopfcmap -split {map}")?,
+            4 => write!(self.text, "prestartfcmap -restore {map}")?,
+            _ => {
+                let line = self.either(
+                    60,
+                    "startfcconsistgrp -prep -restore g",
+                    "stopfcconsistgrp g",
+                );
+                self.text.push_str(line)?;
+            }
+        }
+        self.end()
+    }
+
+    /// A line that makes or removes.
+    fn add_object(&mut self, map: u32) -> Result<(), AllocError> {
+        match self.draws.below(8) {
+            0 => write!(self.text, "mkvdisk -size 64 -unit kb")?,
+            1 => write!(self.text, "mkvdisk -size 64 -unit kb -thin")?,
+            2..=3 => write!(self.text, "rmvdisk {}", self.draws.below(6))?,
+            4 => write!(self.text, "write 4 0 3 5a")?,
+            5 => write!(self.text, "mkfcmap -source 4 -target 5 -copyrate 0")?,
+            6 => write!(self.text, "rmfcmap -force {map}")?,
+            _ => write!(self.text, "read V{} 0 1", self.draws.below(VOLUMES))?,
+        }
+        self.end()
     }
 
     /// A line.
-    fn add_line(&mut self, faults: bool) -> Result<(), AllocError> {
-        match self.draws.below(20) {
-            0..=8 => self.add_access(),
-            9..=14 => self.add_command(),
-            15 => self.add_object(),
-            16..=17 => self.text.push_str("advance -seconds 1\n"),
-            18 => self.text.push_str("advance -seconds 2\n"),
-            _ => {
-                if !faults {
-                    return self.add_command();
-                }
-                let volume = self.draws.below(VOLUMES);
-                let grain = self.draws.below(3);
-                let calls = self.draws.below(3).saturating_add(1);
-                write!(self.text, "armfault V{volume} {grain} {calls}\n")
+    fn add_line(&mut self) -> Result<(), AllocError> {
+        let map = self.draws.below(if self.grouped { 3 } else { 5 });
+        match self.draws.below(100) {
+            0..=41 => self.add_write(),
+            42..=67 => self.add_start(map),
+            68..=75 => self.add_stop(map),
+            76..=81 => self.add_object(map),
+            82..=88 => {
+                write!(
+                    self.text,
+                    "advance -seconds {}",
+                    self.draws.below(3).saturating_add(1)
+                )?;
+                self.end()
             }
+            _ => self.add_fault(),
         }
     }
 }
 
 /// The session of a number, with armed faults or not.
 pub fn drawn_session(alloc: Global, number: u64, faults: bool) -> Result<String, AllocError> {
+    let mut draws = Draws::of(number.wrapping_mul(7919));
+    let grains = draws.below(3).saturating_add(1);
+    let grouped = draws.below(5) == 0;
     let mut session = Session {
-        text: String::from_str(alloc, FIRST_LINES)?,
-        draws: Draws::of(number),
+        text: String::new(alloc),
+        lines: 0,
+        draws,
+        grains,
+        grouped,
+        faults,
     };
-    for _ in 0..LINES {
-        session.add_line(faults)?;
+    session.add_volumes()?;
+    session.add_mappings()?;
+    for map in 0..3 {
+        session.add_write()?;
+        session.add_start(map)?;
+    }
+    while session.lines < LINES {
+        session.add_line()?;
     }
     Ok(session.text)
 }
