@@ -1,11 +1,11 @@
 -- Disks that match what lanes hold agree with whatever disks the lanes give back.
-use Rattle.std.proofs.Common.{◌≡◌, ◌⊎◌, ℕ, suc, ◌+◌, ◌<◌, ◌≤◌, ◌==◌, Bool, true, false, cond, not, ◌&&◌, is_some, Option, Some, None, List, [], ◌∷◌, ◌++◌, length, map, get_or, reverse, Contains, inl, inr, refl, sym, ap, subst, ◌∙◌, arith}
+use Rattle.std.proofs.Common.{◌≡◌, ◌⊎◌, ℕ, ◌+◌, ◌<◌, ◌≤◌, ◌==◌, Bool, true, false, cond, Option, Some, None, List, [], ◌∷◌, ◌++◌, length, get_or, reverse, Contains, inl, inr, refl, sym, ap, subst, ◌∙◌, arith}
 use Rattle.std.specs.List.{AllZip, filter}
 use Rattle.std.specs.Prelude.{ltb}
 use Rattle.std.proofs.lemmas.Bool.{cases_Bool, cases_eq, cases_lt, eqb-true, eq-eqb, le-ltb, lt-ltb, ne_eqb}
 use Rattle.std.proofs.lemmas.Grind.{reverse_onto}
 use Rattle.std.proofs.lemmas.List.Elements.{Contains-append_cases, Contains-append_left, Contains-push}
-use Rattle.fc_base.specs.declared.disk.DiskKind.{DiskKind}
+use Rattle.fc_base.specs.Pools.{of_kind}
 use Rattle.fc_base.specs.declared.ids.VolId.{VolId}
 use Rattle.fc_base.specs.declared.size.GrainSize.{GrainSize}
 use Rattle.fc_decided.proofs.Lists.{first_in, later_in, in_cases, none_in, any_from}
@@ -16,12 +16,13 @@ use Rattle.fc_kept.specs.Disks.{NamedDisk, is_of, disk_of, on_disk}
 use Rattle.fc_kept.specs.Kept.{Kept, is_lost_in}
 use Rattle.fc_kept.specs.Recoverable.{disks_at}
 use Rattle.fc_lane.specs.Lane.{LaneView}
-use Rattle.fc_mdisk.specs.Disk.{DiskState, grain_at}
+use Rattle.fc_mdisk.specs.Disk.{grain_at}
 use Rattle.fc_rules.specs.LaneTold.{LaneOf, number_at}
-use Rattle.law_crash.specs.Leaving.{is_free, is_kind}
+use Rattle.law_crash.specs.Leaving.{is_free}
 use Rattle.law_crash.proofs.Disks.{find_by}
 use Rattle.law_agreeing.specs.Agreeing.{Agree, AllAgree, SameSize, lane_over}
-use Rattle.fc_held.specs.Held.{HeldBy, HoldLane, HoldAllOf, HasNoName, HasDisk, Matches, MatchAll, name_below, is_unknown, is_of_kind}
+use Rattle.fc_held.specs.Held.{HeldBy, HoldLane, HoldAllOf, HasNoName, HasDisk, Matches, MatchAll, is_known, name_below}
+use Rattle.fc_held.proofs.Counting.{free_back}
 
 -- ---- names
 
@@ -134,55 +135,6 @@ find_held named (x ∷ vs) (d ∷ own) rest v z all =
           ]
     ]
 
--- ---- how many are free
-
-free_by : (kind : DiskKind) (d : NamedDisk) (ds : List NamedDisk) (b : Bool) → is_free kind d ≡ b → length (filter (is_free kind) (d ∷ ds)) ≡ cond b (suc (length (filter (is_free kind) ds))) (length (filter (is_free kind) ds))
-free_by kind d ds true e = ap (λ (c : Bool). length (cond c (d ∷ filter (is_free kind) ds) (filter (is_free kind) ds))) e
-free_by kind d ds false e = ap (λ (c : Bool). length (cond c (d ∷ filter (is_free kind) ds) (filter (is_free kind) ds))) e
-
-kind_by : {X : Type 0} (p : X → Bool) (x : X) (xs : List X) (b : Bool) → p x ≡ b → length (filter p (x ∷ xs)) ≡ cond b (suc (length (filter p xs))) (length (filter p xs))
-kind_by p x xs true e = ap (λ (c : Bool). length (cond c (x ∷ filter p xs) (filter p xs))) e
-kind_by p x xs false e = ap (λ (c : Bool). length (cond c (x ∷ filter p xs) (filter p xs))) e
-
-free_of : (kind : DiskKind) (d : NamedDisk) (o : Option VolId) → d.volume ≡ o → is_free kind d ≡ (not (is_some o) && is_kind kind d.disk.kind)
-free_of kind d o e = ap (λ (p : Option VolId). not (is_some p) && is_kind kind d.disk.kind) e
-
-pub free_rest : (kind : DiskKind) (rest : List NamedDisk) (ds : List DiskState) → Unnamed rest → map (λ (d : NamedDisk). d.disk) rest ≡ ds → length (filter (is_free kind) rest) ≡ length (filter (is_of_kind kind) ds)
-free_rest kind [] [] all e = refl
-free_rest kind [] (x ∷ ds) all e = absurd cc
-free_rest kind (d ∷ rest) [] all e = absurd cc
-free_rest kind (d ∷ rest) (x ∷ ds) all e =
-    let head : d.disk ≡ x = cc in
-    let tail : map (λ (z : NamedDisk). z.disk) rest ≡ ds = cc in
-    let more : length (filter (is_free kind) rest) ≡ length (filter (is_of_kind kind) ds) = free_rest kind rest ds (λ z c. all z (later_in d z rest c)) tail in
-    let same : is_free kind d ≡ is_of_kind kind x = free_of kind d None (all d (first_in d rest)) ∙ ap (is_of_kind kind) head in
-    free_by kind d rest (is_of_kind kind x) same ∙ (ap (λ (n : ℕ). cond (is_of_kind kind x) (suc n) n) more ∙ sym (kind_by (is_of_kind kind) x ds (is_of_kind kind x) refl))
-
-free_own : (named : ℕ) (kind : DiskKind) (vs : List VolumeGrains) (own rest : List NamedDisk) → AllZip (HeldBy named) vs own →
-    length (filter (is_free kind) (own ++ rest)) ≡ length (filter (is_unknown named kind) vs) + length (filter (is_free kind) rest)
-free_own named kind [] [] rest z = omega arith
-free_own named kind [] (d ∷ own) rest z = absurd z
-free_own named kind (x ∷ vs) [] rest z = absurd z
-free_own named kind (x ∷ vs) (d ∷ own) rest z =
-    let more = free_own named kind vs own rest z.1 in
-    let same : is_free kind d ≡ is_unknown named kind x = free_of kind d (name_below named x) z.0.name ∙ known named kind x d (ltb x.volume.0 named) refl z.0.holds.kind in
-    let now = free_by kind d (own ++ rest) (is_unknown named kind x) same in
-    let was = kind_by (is_unknown named kind) x vs (is_unknown named kind x) refl in
-    now ∙ (counts (is_unknown named kind x) (length (filter (is_free kind) (own ++ rest))) (length (filter (is_unknown named kind) vs)) (length (filter (is_free kind) rest)) more
-    ∙ ap (λ (n : ℕ). n + length (filter (is_free kind) rest)) (sym was))
-  where
-    known : (named : ℕ) (kind : DiskKind) (x : VolumeGrains) (d : NamedDisk) (b : Bool) → ltb x.volume.0 named ≡ b → d.disk.kind ≡ x.kind →
-        (not (is_some (name_below named x)) && is_kind kind d.disk.kind) ≡ is_unknown named kind x
-    known named kind x d true e k =
-        ap (λ (o : Option VolId). not (is_some o) && is_kind kind d.disk.kind) (named_by named x true e) ∙ sym (ap (λ (b : Bool). not b && is_kind kind x.kind) e)
-    known named kind x d false e k =
-        ap (λ (o : Option VolId). not (is_some o) && is_kind kind d.disk.kind) (named_by named x false e)
-        ∙ (ap (is_kind kind) k ∙ sym (ap (λ (b : Bool). not b && is_kind kind x.kind) e))
-
-    counts : (b : Bool) (n m r : ℕ) → n ≡ m + r → cond b (suc n) n ≡ cond b (suc m) m + r
-    counts true n m r e = omega (arith, e)
-    counts false n m r e = e
-
 -- ---- so they agree
 
 past_end : (xs : List (List ℕ)) (y : ℕ) → length xs ≤ y → grain_at xs y ≡ []
@@ -195,8 +147,11 @@ agrees l named k g ds back m h =
     subst (λ (z : List NamedDisk). Agree l k ds z) (sym h.in_order)
     record {
       named = λ v. sizes v (find_held named (reverse g.volumes) h.own h.rest v h.held h.unnamed);
-      free = λ kind. free_own named kind (reverse g.volumes) h.own h.rest h.held
-          ∙ (ap (λ (n : ℕ). length (filter (is_unknown named kind) (reverse g.volumes)) + n) (free_rest kind h.rest (g.pooled ++ g.aside) h.unnamed h.free) ∙ sym (m.free kind));
+      free = λ kind.
+          let now : length (filter (is_free kind) (h.own ++ h.rest)) + length (filter (is_known named kind) g.volumes) ≡ of_kind kind g.disks =
+          ap (λ (zs : List NamedDisk). length (filter (is_free kind) zs) + length (filter (is_known named kind) g.volumes)) (sym h.in_order) ∙ free_back named kind g back h in
+          let was = m.free kind in
+          omega (arith, now, was);
       bytes = λ v y f. stores v y f (find_held named (reverse g.volumes) h.own h.rest v h.held h.unnamed);
     }
   where

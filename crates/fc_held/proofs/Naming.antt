@@ -1,5 +1,5 @@
 -- The disks that a lane gives back, with their names.
-use Rattle.std.proofs.Common.{◌≡◌, ℕ, zero, suc, ◌+◌, ◌-◌, ◌<◌, ◌≤◌, cond, Option, Some, None, List, [], ◌∷◌, ◌++◌, length, map, drop, get_or, reverse, slice_get, Contains, inl, inr, refl, sym, ap, subst, ◌∙◌, arith}
+use Rattle.std.proofs.Common.{◌≡◌, ℕ, zero, suc, ◌-◌, ◌<◌, ◌≤◌, cond, Option, Some, None, List, [], ◌∷◌, ◌++◌, length, map, drop, get_or, reverse, slice_get, Contains, inl, inr, refl, sym, ap, subst, ◌∙◌, arith}
 use Rattle.std.specs.List.{All, AllZip}
 use Rattle.std.specs.Prelude.{ltb}
 use Rattle.std.proofs.lemmas.Grind.{reverse_onto}
@@ -8,7 +8,7 @@ use Rattle.std.proofs.lemmas.Option.{slice_get-get_or, slice_get_past}
 use Rattle.fc_base.specs.declared.ids.VolId.{VolId}
 use Rattle.fc_base.specs.declared.volume.Volume.{Volume}
 use Rattle.fc_decided.proofs.Lists.{in_cases, none_in}
-use Rattle.fc_grains.specs.Grains.{AreAllOf, GrainsState}
+use Rattle.fc_grains.specs.Grains.{AreAllOf, GrainsState, pool_of}
 use Rattle.fc_grains.specs.Volumes.{HoldAll, VolumeGrains}
 use Rattle.fc_kept.specs.Disks.{NamedDisk}
 use Rattle.fc_lane.specs.Lane.{LaneView}
@@ -96,6 +96,11 @@ pub same_disks : (ds : List DiskState) → map (λ (d : NamedDisk). d.disk) (map
 same_disks [] = refl
 same_disks (d ∷ ds) = ap (λ (xs : List DiskState). d ∷ xs) (same_disks ds)
 
+named_disks : (named : ℕ) (vs : List Volume) (ds : List DiskState) → map (λ (d : NamedDisk). d.disk) (with_names named vs ds) ≡ ds
+named_disks named [] ds = same_disks ds
+named_disks named (v ∷ vs) [] = refl
+named_disks named (v ∷ vs) (d ∷ ds) = ap (λ (xs : List DiskState). d ∷ xs) (named_disks named vs ds)
+
 pub without_names : (ds : List DiskState) (d : NamedDisk) → Contains (map (with_name None) ds) d → HasNoName d
 without_names [] d c = absurd (none_in d c)
 without_names (x ∷ ds) d c = elim (in_cases (with_name None x) d (map (with_name None) ds) c) [
@@ -120,6 +125,7 @@ lane_held named volumes g disks back e all has =
       held = held_named named (reverse g.volumes) (reverse volumes) all.own numbers all.held;
       free = same_disks (g.pooled ++ g.aside);
       unnamed = without_names (g.pooled ++ g.aside);
+      kinds = ap pool_of (ap (map (λ (d : NamedDisk). d.disk)) e ∙ named_disks named (reverse volumes) disks) ∙ all.kinds;
     }
 
 -- ---- one disk after the other

@@ -1,10 +1,9 @@
 -- After a step disks still match what a lane holds.
-use Rattle.std.proofs.Common.{◌≡◌, ℕ, suc, ◌+◌, ◌<◌, ◌==◌, ◌||◌, Bool, true, false, cond, not, ◌&&◌, is_some, Option, Some, None, List, [], ◌∷◌, ◌++◌, length, map, reverse, Contains, inl, inr, refl, sym, ap, subst, ◌∙◌}
+use Rattle.std.proofs.Common.{arith, ◌≡◌, ℕ, suc, ◌<◌, ◌==◌, ◌||◌, Bool, true, false, cond, not, ◌&&◌, is_some, Option, Some, None, List, [], ◌∷◌, length, map, Contains, inl, inr, refl, sym, ap, subst, ◌∙◌}
 use Rattle.std.specs.List.{AllZip, filter, list_any}
 use Rattle.std.specs.Prelude.{ltb}
 use Rattle.std.proofs.lemmas.Bool.{cases_Bool}
-use Rattle.std.proofs.lemmas.Grind.{reverse_onto}
-use Rattle.std.proofs.lemmas.List.{map-append}
+use Rattle.fc_base.specs.Pools.{of_kind}
 use Rattle.fc_base.specs.declared.disk.DiskKind.{DiskKind}
 use Rattle.fc_decided.proofs.Lists.{map_from, map_in}
 use Rattle.fc_entry.specs.Picture.{content_at}
@@ -12,13 +11,12 @@ use Rattle.fc_grains.specs.Grains.{GrainsState}
 use Rattle.fc_grains.specs.Volumes.{VolumeGrains, is_there, stored, volume_of}
 use Rattle.fc_kept.specs.Disks.{NamedDisk, is_of, disk_of, on_disk}
 use Rattle.fc_kept.specs.Kept.{Kept, is_lost_in}
-use Rattle.fc_mdisk.specs.Disk.{DiskState}
 use Rattle.fc_rules.specs.LaneTold.{LaneOf, number_at}
 use Rattle.fc_steps.specs.Standing.{VolumeKind, kind_of_grains}
 use Rattle.law_crash.specs.Doing.{SameDisk}
 use Rattle.law_crash.specs.Leaving.{is_free, is_kind}
 use Rattle.law_crash.proofs.Disks.{find_by, same_name, was_of}
-use Rattle.fc_held.specs.Held.{AreOnce, GoesAlong, Matches, StayHeld, free_in, is_of_kind, is_unknown}
+use Rattle.fc_held.specs.Held.{AreOnce, GoesAlong, Matches, StayHeld, is_known}
 
 -- ---- the disk of a volume
 
@@ -56,10 +54,10 @@ as_many_free kind (x ∷ xs) (y ∷ ys) s =
     counted true x y xs ys e = ap suc e
     counted false x y xs ys e = e
 
-abbrev unknown_kind : ℕ → DiskKind → VolumeKind → Bool
-unknown_kind named kind v = not (ltb v.volume.0 named) && is_kind kind v.kind
+abbrev pub known_kind : ℕ → DiskKind → VolumeKind → Bool
+known_kind named kind v = ltb v.volume.0 named && is_kind kind v.kind
 
-filter_map : (p : VolumeKind → Bool) (xs : List VolumeGrains) → length (filter (λ (x : VolumeGrains). p (kind_of_grains x)) xs) ≡ length (filter p (map kind_of_grains xs))
+pub filter_map : (p : VolumeKind → Bool) (xs : List VolumeGrains) → length (filter (λ (x : VolumeGrains). p (kind_of_grains x)) xs) ≡ length (filter p (map kind_of_grains xs))
 filter_map p [] = refl
 filter_map p (x ∷ xs) = by (p (kind_of_grains x)) (filter_map p xs)
   where
@@ -69,24 +67,9 @@ filter_map p (x ∷ xs) = by (p (kind_of_grains x)) (filter_map p xs)
     by true e = ap suc e
     by false e = e
 
-map_reverse : (xs : List VolumeGrains) → map kind_of_grains (reverse xs) ≡ reverse (map kind_of_grains xs)
-map_reverse [] = refl
-map_reverse (x ∷ xs) =
-    ap (map kind_of_grains) (reverse_onto xs x []) ∙ (map-append kind_of_grains (reverse xs) (x ∷ [])
-    ∙ (ap (λ (ys : List VolumeKind). ys ++ (kind_of_grains x ∷ [])) (map_reverse xs) ∙ sym (reverse_onto (map kind_of_grains xs) (kind_of_grains x) [])))
-
-unknown_by_kinds : (named : ℕ) (kind : DiskKind) (xs : List VolumeGrains) → length (filter (is_unknown named kind) (reverse xs)) ≡ length (filter (unknown_kind named kind) (reverse (map kind_of_grains xs)))
-unknown_by_kinds named kind xs =
-    filter_map (unknown_kind named kind) (reverse xs) ∙ ap (λ (ys : List VolumeKind). length (filter (unknown_kind named kind) ys)) (map_reverse xs)
-
-same_free : (named : ℕ) (kind : DiskKind) (old new : GrainsState) → StayHeld old new → free_in named kind new ≡ free_in named kind old
-same_free named kind old new s =
-    let first : length (filter (is_unknown named kind) (reverse new.volumes)) ≡ length (filter (is_unknown named kind) (reverse old.volumes)) =
-    unknown_by_kinds named kind new.volumes
-    ∙ (ap (λ (ys : List VolumeKind). length (filter (unknown_kind named kind) (reverse ys))) s.kinds ∙ sym (unknown_by_kinds named kind old.volumes)) in
-    ap (λ (n : ℕ). n + length (filter (is_of_kind kind) (new.pooled ++ new.aside))) first
-    ∙ (ap (λ (ds : List DiskState). length (filter (is_unknown named kind) (reverse old.volumes)) + length (filter (is_of_kind kind) (ds ++ new.aside))) s.pooled
-    ∙ ap (λ (ds : List DiskState). length (filter (is_unknown named kind) (reverse old.volumes)) + length (filter (is_of_kind kind) (old.pooled ++ ds))) s.aside)
+same_known : (named : ℕ) (kind : DiskKind) (old new : GrainsState) → StayHeld old new → length (filter (is_known named kind) new.volumes) ≡ length (filter (is_known named kind) old.volumes)
+same_known named kind old new s =
+    filter_map (known_kind named kind) new.volumes ∙ (ap (λ (ks : List VolumeKind). length (filter (known_kind named kind) ks)) s.kinds ∙ sym (filter_map (known_kind named kind) old.volumes))
 
 -- ---- which volumes are there
 
@@ -138,7 +121,12 @@ steps l named k_old k_new old new ds_old ds_new zip stay once along m =
             | inl le ↦ inl le
             | inr f ↦ inr (same_there v old new stay ∙ f)
           ]));
-      free = λ kind. as_many_free kind ds_old ds_new zip ∙ (m.free kind ∙ sym (same_free named kind old new stay));
+      free = λ kind.
+          let free = as_many_free kind ds_old ds_new zip in
+          let known = same_known named kind old new stay in
+          let was = m.free kind in
+          let all : of_kind kind new.disks ≡ of_kind kind old.disks = ap (of_kind kind) stay.disks in
+          omega (arith, free, known, was, all);
       bytes = λ x y c lt inside lost.
           let p = was_there old new stay x c in
           let z : VolumeGrains = p.was in

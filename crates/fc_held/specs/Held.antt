@@ -1,18 +1,18 @@
 -- The disks that lanes hold, with the names of their volumes; and disks of which these are known but for lost grains.
-use Rattle.std.specs.Prelude.{◌≡◌, ◌⊎◌, ℕ, ◌+◌, ◌<◌, ◌≤◌, ltb, Bool, false, ◌&&◌, not, if◌then◌else◌, List, ◌++◌, length, map, filter, reverse, slice_get, slice_index_or, All, Contains, Option, Some, None}
+use Rattle.std.specs.Prelude.{◌≡◌, ◌⊎◌, ℕ, ◌+◌, ◌<◌, ◌≤◌, ltb, Bool, false, ◌&&◌, if◌then◌else◌, List, ◌++◌, length, map, filter, reverse, slice_get, slice_index_or, All, Contains, Option, Some, None}
 use Rattle.std.specs.List.{AllZip}
+use Rattle.fc_base.specs.Pools.{of_kind}
 use Rattle.fc_base.specs.declared.disk.DiskKind.{DiskKind}
 use Rattle.fc_base.specs.declared.ids.VolId.{VolId}
 use Rattle.fc_base.specs.declared.size.GrainSize.{GrainSize}
 use Rattle.fc_base.specs.declared.volume.Volume.{Volume}
 use Rattle.fc_entry.specs.Picture.{content_at}
-use Rattle.fc_grains.specs.Grains.{GrainsState, total_of}
+use Rattle.fc_grains.specs.Grains.{GrainsState, pool_of, total_of}
 use Rattle.fc_grains.specs.Volumes.{HoldsGrains, VolumeGrains, is_there, stored, volume_of}
 use Rattle.fc_kept.specs.Disks.{NamedDisk, disk_of, on_disk}
 use Rattle.fc_kept.specs.Kept.{Kept, is_lost_in}
 use Rattle.fc_kept.specs.Recoverable.{disks_at}
 use Rattle.fc_lane.specs.Lane.{LaneView}
-use Rattle.fc_mdisk.specs.Disk.{DiskState}
 use Rattle.fc_rules.specs.LaneTold.{LaneOf, number_at}
 use Rattle.fc_stands.specs.Store.{StoreView}
 use Rattle.fc_steps.specs.Standing.{kind_of_grains}
@@ -32,7 +32,8 @@ pub record HeldBy (named : ℕ) (v : VolumeGrains) (d : NamedDisk) : Type 0 wher
 abbrev pub HasNoName : NamedDisk → Type 0
 HasNoName d = d.volume ≡ None
 
--- The disks of the volumes, from the last to the first; then those of the pool, and those put aside, without a name.
+-- The disks of the volumes, from the last to the first; then those of the pool, and those put aside, without a name. These are all that
+-- the lane has, of each kind as many as it says.
 pub record HoldLane (named : ℕ) (g : GrainsState) (ds : List NamedDisk) : Type 0 where
   pub own : List NamedDisk
   pub rest : List NamedDisk
@@ -40,6 +41,7 @@ pub record HoldLane (named : ℕ) (g : GrainsState) (ds : List NamedDisk) : Type
   pub held : AllZip (HeldBy named) (reverse g.volumes) own
   pub free : map (λ (d : NamedDisk). d.disk) rest ≡ g.pooled ++ g.aside
   pub unnamed : (d : NamedDisk) → Contains rest d → HasNoName d
+  pub kinds : pool_of (map (λ (d : NamedDisk). d.disk) ds) ≡ g.disks
 
 -- Lane by lane.
 pub record HoldAllOf (named : ℕ) (lanes : List LaneView) (ds : List (List NamedDisk)) : Type 0 where
@@ -48,28 +50,21 @@ pub record HoldAllOf (named : ℕ) (lanes : List LaneView) (ds : List (List Name
 
 -- ---- disks that match what a lane holds
 
--- How many disks of a kind have no name: those of volumes that metadata doesn't know yet, and those that no volume has.
-abbrev pub is_unknown : ℕ → DiskKind → VolumeGrains → Bool
-is_unknown named kind v = not (ltb v.volume.0 named) && is_kind kind v.kind
-
-abbrev pub is_of_kind : DiskKind → DiskState → Bool
-is_of_kind kind d = is_kind kind d.kind
-
-abbrev pub free_in : ℕ → DiskKind → GrainsState → ℕ
-free_in named kind g =
-    length (filter (is_unknown named kind) (reverse g.volumes)) + length (filter (is_of_kind kind) (g.pooled ++ g.aside))
+-- A volume that metadata knows, with a disk of this kind.
+abbrev pub is_known : ℕ → DiskKind → VolumeGrains → Bool
+is_known named kind v = ltb v.volume.0 named && is_kind kind v.kind
 
 -- The disk of a volume, of its kind, with as many grains.
 abbrev pub HasDisk : VolumeGrains → Option NamedDisk → Type 0
 HasDisk x o = (d : NamedDisk) × (o ≡ Some d) × (d.disk.kind ≡ x.kind) × (length d.disk.grains ≡ length x.contents)
 
--- Those volumes that metadata knows have their disks, and as many disks are free; and what metadata doesn't have as lost is on the
--- disks what the lane holds.
+-- Those volumes that metadata knows have their disks, and all others of the lane's disks are free; and what metadata doesn't have as lost
+-- is on the disks what the lane holds.
 pub record Matches (l : LaneOf) (named : ℕ) (k : Kept) (g : GrainsState) (ds : List NamedDisk) : Type 0 where
   pub once : (x : VolumeGrains) → Contains g.volumes x → volume_of g.volumes x.volume.0 ≡ x
   pub there : (x : VolumeGrains) → Contains g.volumes x → x.volume.0 < named → HasDisk x (disk_of ds x.volume.0)
   pub none : (v : ℕ) → (named ≤ v) ⊎ (is_there g.volumes v ≡ false) → disk_of ds v ≡ None
-  pub free : (kind : DiskKind) → length (filter (is_free kind) ds) ≡ free_in named kind g
+  pub free : (kind : DiskKind) → length (filter (is_free kind) ds) + length (filter (is_known named kind) g.volumes) ≡ of_kind kind g.disks
   pub bytes : (x : VolumeGrains) (y : ℕ) → Contains g.volumes x → x.volume.0 < named → y < length x.contents →
       is_lost_in k.lost x.volume.0 (number_at l y) ≡ false →
       content_at x.contents y ≡ on_disk l (disk_of ds x.volume.0) y
@@ -103,12 +98,11 @@ pub record HaveVolumes (count : ℕ) (s : StoreView) : Type 0 where
 abbrev pub AreOnce : List VolumeGrains → Type 0
 AreOnce volumes = (x : VolumeGrains) → Contains volumes x → volume_of volumes x.volume.0 ≡ x
 
--- The volumes with their kinds and sizes, and the disks that no volume has, stay.
+-- The volumes with their kinds and sizes stay, and how many disks of each kind the lane has.
 pub record StayHeld (old new : GrainsState) : Type 0 where
   pub kinds : map kind_of_grains new.volumes ≡ map kind_of_grains old.volumes
   pub sizes : (v : ℕ) → length (volume_of new.volumes v).contents ≡ length (volume_of old.volumes v).contents
-  pub pooled : new.pooled ≡ old.pooled
-  pub aside : new.aside ≡ old.aside
+  pub disks : new.disks ≡ old.disks
 
 -- What isn't lost by metadata any more is what it was, here and there; or the disks have what the lane holds.
 abbrev pub GoesAlong : LaneOf → (k_old k_new : Kept) → (old new : GrainsState) → (ds_old ds_new : List NamedDisk) → Type 0

@@ -140,7 +140,7 @@ module _ {C D : Type 0} (seen : D → List ℕ) (may_leave : D → List ℕ → 
           volumes = have_still old.disks old.store store way.place doing_inside is (stays.ids ∙ sym stay.ids) (stays.disks ∙ sym stay.disks) d.keeps.volumes;
           matches = subst (λ (ls : List LaneView). MatchAll grain old.named (kept_by due d.point.kept) ls disks) (sym (ap (λ (s : StoreView). s.lanes) is))
               (matches_along grain w way.place old.named d.point.kept (kept_by due d.point.kept) old.store.lanes now (lane_in store way.place) d.point.disks disks
-              (λ e. get_or_default old.store.lanes way.place e no_lane doing_inside) along matches_none);
+              (λ e. get_or_default old.store.lanes way.place e no_lane doing_inside) along (stays.disks ∙ sym stay.disks) matches_none);
         }
 
     doing_on : IsDoing seen may_leave new way_new history w least

@@ -16,7 +16,7 @@ use Rattle.law_agreeing.specs.Agreeing.{lane_over}
 use Rattle.law_noted.specs.DataSteps.{GoAlong}
 
 module _ (grain : GrainSize) (w : Whole) (place named : ℕ) (k k' : Kept) (all : List LaneView) (old new : LaneView) (ds ds' : List (List NamedDisk)) (at : (d : LaneView) → slice_index_or all place d ≡ old)
-    (a : GoAlong grain w place k k' old.grains new.grains ds ds') (m : MatchAll grain named k all ds) where
+    (a : GoAlong grain w place k k' old.grains new.grains ds ds') (disks : new.grains.disks ≡ old.grains.disks) (m : MatchAll grain named k all ds) where
   lane_is : (xs : List (List NamedDisk)) (i : ℕ) → length xs ≡ lanes w → lane_over grain xs i ≡ lane_at grain w i
   lane_is xs i e = λ j. record { lane = i; lanes = e j; grain = grain }
 
@@ -32,7 +32,7 @@ module _ (grain : GrainSize) (w : Whole) (place named : ℕ) (k k' : Kept) (all 
 
   here : (d : LaneView) → place < length ds → Is place new.grains
   here d il =
-      let stay : StayHeld old.grains new.grains = record { kinds = a.kinds; sizes = a.sizes; pooled = a.pooled; aside = a.aside } in
+      let stay : StayHeld old.grains new.grains = record { kinds = a.kinds; sizes = a.sizes; disks = disks } in
       steps (lane_at grain w place) named k k' old.grains new.grains (disks_at ds place) (disks_at ds' place) (a.same place) stay a.once a.here
       (subst (λ (v : LaneView). Was place v.grains) (at d) (was place d il))
 
@@ -40,7 +40,7 @@ module _ (grain : GrainSize) (w : Whole) (place named : ℕ) (k k' : Kept) (all 
   others i d il ne =
       let g : GrainsState = (slice_index_or all i d).grains in
       let before : Was i g = was i d il in
-      let stay : StayHeld g g = record { kinds = refl; sizes = λ v. refl; pooled = refl; aside = refl } in
+      let stay : StayHeld g g = record { kinds = refl; sizes = λ v. refl; disks = refl } in
       steps (lane_at grain w i) named k k' g g (disks_at ds i) (disks_at ds' i) (a.same i) stay before.once
       (a.others i g (subst (λ (n : ℕ). i < n) a.lanes_are il) ne) before
 

@@ -1,6 +1,6 @@
 -- The entry that is under way in a noted store is in hand, and what stands on metadata's disk may be recovered with whatever disks the
 -- lanes give back: between its steps, in them, and in the calls that put a record.
-use Rattle.std.proofs.Common.{◌≡◌, ℕ, ◌<◌, true, Option, Some, None, List, length, refl, sym, ap, subst, ◌∙◌}
+use Rattle.std.proofs.Common.{◌≡◌, ℕ, ◌<◌, true, Option, Some, None, List, sym, subst}
 use Rattle.std.specs.List.{list_any}
 use Rattle.fc_agenda.specs.Goes.{stays}
 use Rattle.fc_base.specs.declared.request.Move.{Move}
@@ -9,7 +9,7 @@ use Rattle.fc_base.specs.declared.request.WritePart.{WritePart}
 use Rattle.fc_base.specs.declared.size.GrainSize.{GrainSize}
 use Rattle.fc_changed.specs.Row.{Row}
 use Rattle.fc_entry.specs.HistoryState.{HistoryState}
-use Rattle.fc_held.specs.Held.{HoldAllOf, MatchAll}
+use Rattle.fc_held.specs.Held.{HoldAllOf}
 use Rattle.fc_held.proofs.Holding.{all_agree}
 use Rattle.fc_image.specs.declared.image.MetaImage.{MetaImage}
 use Rattle.fc_image.specs.declared.record.MetaRecord.{MetaRecord}
@@ -37,7 +37,6 @@ use Rattle.fc_steps.specs.declared.stepping.Next.TheVariants.{Move as NextMove, 
 use Rattle.fc_store.specs.Stepping.{lane_in, no_lane}
 use Rattle.law_agreeing.specs.Agreeing.{AllAgree}
 use Rattle.law_crash.specs.Doing.{noted}
-use Rattle.law_crash.specs.Points.{Point}
 use Rattle.law_noted.specs.Advancing.{uncopied}
 use Rattle.law_noted.specs.DataSteps.{IsInHand, copies_nothing}
 use Rattle.law_noted.specs.Records.{kept_by}
@@ -75,7 +74,7 @@ module _ {C D : Type 0} (seen : D → List ℕ) (may_leave : D → List ℕ → 
   abbrev r : Request
   r = request_of way.doing.steps.ask
 
-  at_lane : IsLaneAt d.begun.control.grain w way.place (lane_in d.begun way.place)
+  pub at_lane : IsLaneAt d.begun.control.grain w way.place (lane_in d.begun way.place)
   at_lane = d.told.0.each way.place no_lane d.inside
 
   pub in_hand : IsInHand d.begun.control.grain w least way.place way.doing (lane_in d.begun way.place) (lane_in n.store way.place) d.steps d.before way.due d.point
@@ -113,7 +112,7 @@ module _ {C D : Type 0} (seen : D → List ℕ) (may_leave : D → List ℕ → 
   -- ---- where none is due
 
   module _ (none : way.due ≡ None) where
-    hand_none : IsInHand d.begun.control.grain w least way.place way.doing (lane_in d.begun way.place) (lane_in n.store way.place) d.steps d.before None d.point
+    pub hand_none : IsInHand d.begun.control.grain w least way.place way.doing (lane_in d.begun way.place) (lane_in n.store way.place) d.steps d.before None d.point
     hand_none = subst (λ (o : Option MetaRecord). IsInHand grain w least way.place way.doing lane now d.steps d.before o d.point) none in_hand
 
     agrees_none : (back : List (List NamedDisk)) → HoldAllOf n.named n.store.lanes back → AllAgree grain d.point.kept d.point.disks back

@@ -1,26 +1,17 @@
 -- What a step makes, and what it leaves.
-use Rattle.std.specs.Prelude.{◌≡◌, ◌⊎◌, ℕ, ◌≤◌, ◌/◌, Bool, true, false, cond, List, [], ◌∷◌, ◌++◌, length, Option, Some, None, Result, Ok, Err, IfOk, OnErr, IsErrOf, Contains, map, ◌<◌}
-use Rattle.fc_base.specs.Column.{holder}
-use Rattle.fc_base.specs.Sheet.{birth_place, column, slot_at}
+use Rattle.std.specs.Prelude.{◌≡◌, ◌⊎◌, ℕ, ◌≤◌, ◌/◌, Bool, true, false, List, [], ◌∷◌, ◌++◌, length, Some, None, Result, Ok, Err, IfOk, OnErr, IsErrOf, Contains, map, ◌<◌}
 use Rattle.fc_base.specs.declared.decision.Decision.{Decision}
-use Rattle.fc_base.specs.declared.ids.VolId.{VolId}
-use Rattle.fc_base.specs.declared.request.Move.{Move}
-use Rattle.fc_base.specs.declared.request.Side.TheVariants.{Now, Under}
-use Rattle.fc_base.specs.declared.request.Side.{Side}
 use Rattle.fc_base.specs.declared.volume.Volume.{Volume}
 use Rattle.fc_changed.specs.Row.{Row}
 use Rattle.fc_entry.specs.HistoryState.{HistoryState}
-use Rattle.fc_entry.specs.Picture.{is_lost}
 use Rattle.fc_entry.specs.declared.entry.Entry.{Entry}
 use Rattle.fc_format.specs.Halves.{Image, recovered}
-use Rattle.fc_grains.specs.Volumes.{stored}
 use Rattle.fc_image.specs.declared.image.MetaImage.{MetaImage}
 use Rattle.fc_kept.specs.Disks.{NamedDisk}
 use Rattle.fc_imaging.specs.Imaging.{is_lost_at, kept_of}
 use Rattle.fc_kept.specs.Images.{kept_in}
 use Rattle.fc_kept.specs.Kept.{LostGrains, is_lost_in}
 use Rattle.fc_kept.specs.Recoverable.{Recoverable}
-use Rattle.fc_lane.specs.Lane.{LaneView}
 use Rattle.fc_legal.specs.Lawful.{IsLawful}
 use Rattle.fc_legal.specs.Steps.{Step, left_by}
 use Rattle.fc_legal.specs.Whole.{Whole}
@@ -29,13 +20,8 @@ use Rattle.fc_metadisk.specs.Disk.{LeavesOnly}
 use Rattle.fc_stands.specs.Phase.{StandsAt}
 use Rattle.fc_stands.specs.Store.{StoreView}
 use Rattle.fc_steps.specs.UnderWay.{next_of}
-use Rattle.fc_steps.specs.declared.ask.Ask.{Ask}
-use Rattle.fc_steps.specs.declared.ask.Ask.TheVariants.{Write, Copy, Clean}
 use Rattle.fc_steps.specs.declared.stepping.Next.{Next}
-use Rattle.fc_steps.specs.declared.stepping.Next.TheVariants.{Move as NextMove, Own, Over}
-use Rattle.fc_steps.specs.declared.stepping.Steps.{Steps}
-use Rattle.fc_steps.specs.declared.stop.Stop.{Stop}
-use Rattle.fc_steps.specs.declared.stop.Stop.TheVariants.{Failed, NoMemory}
+use Rattle.fc_steps.specs.declared.stepping.Next.TheVariants.{Own}
 use Rattle.fc_store.specs.Stepping.{lane_in}
 use Rattle.fc_held.specs.Held.{HaveVolumes, HoldAllOf}
 use Rattle.law_noted.specs.DataSteps.{Copies}
@@ -61,25 +47,6 @@ IsMarkedBy n way next = Unit {0}
 
 abbrev pub IsMarkedNext : {C D : Type 0} → Noted C D → UnderWay → Type 0
 IsMarkedNext n way = IsMarkedBy n way (next_of way.doing.steps)
-
--- The volume whose grain an entry that is over notes as changed.
-abbrev pub torn_side : Side → VolId → Option VolId
-torn_side Now volume = Some volume
-torn_side Under volume = None
-
-abbrev pub volume_torn : Option Stop → Option VolId
-volume_torn None = None
-volume_torn (Some (Failed None)) = None
-volume_torn (Some (Failed (Some torn))) = torn_side torn.side torn.volume
-volume_torn (Some NoMemory) = None
-
-abbrev pub volume_by : Ask → Bool → Option Stop → Option VolId
-volume_by (Write part) written stop = cond written (Some part.volume) (volume_torn stop)
-volume_by (Copy m grain) written stop = None
-volume_by (Clean m grain) written stop = None
-
-abbrev pub volume_noted : Steps → Option VolId
-volume_noted s = volume_by s.ask s.written s.stop
 
 -- ---- results
 

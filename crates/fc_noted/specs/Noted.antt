@@ -8,7 +8,6 @@ use Rattle.fc_entry.specs.HistoryState.{HistoryState}
 use Rattle.fc_entry.specs.declared.entry.Entry.{Entry}
 use Rattle.fc_format.specs.Halves.{Image}
 use Rattle.fc_format.specs.Ranges.{HasGoodIds}
-use Rattle.fc_grains.specs.Grains.{pool_of}
 use Rattle.fc_image.specs.declared.image.MetaImage.{MetaImage}
 use Rattle.fc_image.specs.declared.record.MetaRecord.{MetaRecord}
 use Rattle.fc_kept.specs.Disks.{NamedDisk}
@@ -17,7 +16,7 @@ use Rattle.fc_kept.specs.Kept.{Kept, kept_after}
 use Rattle.fc_kept.specs.Prefix.{AreStepsOf}
 use Rattle.fc_kept.specs.Sound.{IsSoundImage}
 use Rattle.fc_lane.specs.Doing.{IsUnderWay}
-use Rattle.fc_lanes.specs.Dealing.{disks_in, pools_dealt}
+use Rattle.fc_lanes.specs.Dealing.{Begin, all_dealt, pools_dealt}
 use Rattle.fc_legal.specs.Added.{IsTold}
 use Rattle.fc_legal.specs.Agenda.{Asks}
 use Rattle.fc_legal.specs.Whole.{Whole, opened}
@@ -48,13 +47,13 @@ use Rattle.fc_noted.specs.declared.noted.UnderWay.{UnderWay}
 abbrev pub NoHistory : HistoryState
 NoHistory = record { actors = codes "main" ∷ []; entries = [] }
 
--- A store without volumes, over these fresh disks, so many in all.
+-- A store without volumes, whose lanes begin over these fresh disks, so many in all.
 pub record BeginsOver (count : ℕ) (disks : List DiskState) (s : StoreView) : Type 0 where
   pub counted : length disks ≡ count
   pub few : count < 2 ^ 30
   pub fresh : All IsFresh disks
   pub stands : StandsFor s (opened (pools_dealt LANES disks))
-  pub disks_are : disks_in s.lanes ≡ pool_of disks
+  pub begin : Begin s.control.grain LANES (all_dealt LANES disks) s.lanes
 
 module _ {C D : Type 0} (seen : D → List ℕ) (may_leave : D → List ℕ → Type 0) where
   -- Metadata stands for what a point keeps, all of it synced; its rows are those of the history, but for writes that are marked. And

@@ -4,7 +4,7 @@ ghost use Rattle.std.specs.Prelude.{◌≡◌, ◌<◌, ◌^◌, [], IfErr, IfOk
 ghost use Rattle.std.specs.List.{All};
 ghost use Rattle.fc_changed.specs.Row.{Row};
 ghost use Rattle.fc_entry.specs.HistoryState.{HistoryState};
-ghost use Rattle.fc_lanes.specs.Dealing.{disks_in, pools_dealt};
+ghost use Rattle.fc_lanes.specs.Dealing.{Begin, all_dealt, pools_dealt};
 ghost use Rattle.fc_legal.specs.Agenda.{line_read};
 ghost use Rattle.fc_legal.specs.Whole.{Whole, opened};
 ghost use Rattle.fc_mdisk.specs.Disk.{DiskState, IsFresh};
@@ -21,10 +21,12 @@ use fc_base::command::Line;
 use fc_base::limits::LANES;
 use fc_base::outcome::NoMemory;
 use fc_base::size::GrainSize;
+use fc_desk::Control;
 use fc_held::all_named;
 use fc_image::MetaRecord;
 use fc_imaging::image_of;
 use fc_lane::doing::Doing;
+use fc_lanes::deal::{deal, make_lanes};
 use fc_marks::{Mark, NotedStop};
 use fc_mdisk::mdisk::Mdisk;
 use fc_meta::{Meta, MetaError};
@@ -84,17 +86,32 @@ impl<D: Mdisk, M: MetaDisk> Noted<D, M> {
         ensures any_moment { LeavesOnly M.moment M.left_since disk (opened_meta result) LeavesNothingYet }
     {
         let count = disks.len();
-        match Store::new(alloc, grain, disks) {
-            Ok(store) => match Noted::over(alloc, store, count, disk) {
-                Ok(noted) => Ok(noted),
-                Err((_, disk, stop)) => Err((disk, stop)),
-            },
-            Err(NoMemory) => Err((disk, NotedStop::NoMemory)),
+        let store = match first_store(alloc, grain, disks) {
+            Ok(store) => store,
+            Err(NoMemory) => return Err((disk, NotedStop::NoMemory)),
+        };
+        let image = match image_of(alloc, store.control(), store.all_lanes()) {
+            Ok(image) => image,
+            Err(NoMemory) => return Err((disk, NotedStop::NoMemory)),
+        };
+        match Meta::open(alloc, disk, &image) {
+            Ok(meta) => Ok(Noted {
+                alloc,
+                store,
+                meta,
+                marks: Vec::new(alloc),
+                named: image.next_volume,
+                disks: count,
+                script: Script::Over,
+                under_way: None,
+                live: true,
+            }),
+            Err((disk, error)) => Err((disk, stop_of(error))),
         }
     }
 
-    /// A noted store over a store without volumes, of so many disks in all, and over a disk of zeros for its metadata, on which the
-    /// first image is written. Refused, the store comes back, and the disk of metadata, which stands for no image or for the first one.
+    /// As `open`, over a store that `first_store` made of so many disks. Refused, the store comes back, and the disk of metadata, which
+    /// stands for no image or for the first one.
     pub fn over(
         alloc: Global,
         store: Store<D>,
@@ -105,7 +122,7 @@ impl<D: Mdisk, M: MetaDisk> Noted<D, M> {
         requires zeros { M.seen disk ≡ replicate (length (M.seen disk)) 0 }
         requires synced { Only (M.seen disk) (M.may_leave disk) }
         ensures noted { IfOk result (λ n. (disks : List DiskState) → BeginsOver count disks store → IsNotedAt M.seen M.may_leave n NoHistory (opened (pools_dealt LANES disks)) []) }
-        ensures disks { IfOk result (λ n. disks_in n.store.lanes ≡ disks_in store.lanes) }
+        ensures store { IfOk result (λ n. n.store ≡ store) }
         ensures live { IfOk result (λ n. n.live ≡ true) }
         ensures any_moment { LeavesOnly M.moment M.left_since disk (over_meta result) LeavesFirst }
         ensures back { IfErr result (λ e. e.0 ≡ store) }
@@ -179,6 +196,29 @@ impl<D: Mdisk, M: MetaDisk> Noted<D, M> {
             Err(NoMemory) => Err((meta.into_disk(), NoMemory)),
         }
     }
+}
+
+/// A store without volumes, whose lanes begin over these disks, which are dealt to them in turn. Refused, the disks are gone.
+pub fn first_store<D: Mdisk>(
+    alloc: Global,
+    grain: GrainSize,
+    disks: Vec<D>,
+) -> Result<Store<D>, NoMemory>
+    requires few { vec_len disks < 2 ^ 30 }
+    requires fresh { All IsFresh (map D.meaning disks.items) }
+    ensures stands { IfOk result (λ s. StandsFor s (opened (pools_dealt LANES (map D.meaning disks.items)))) }
+    ensures grain { IfOk result (λ s. s.control.grain ≡ grain) }
+    ensures begin { IfOk result (λ s. Begin grain LANES (all_dealt LANES (map D.meaning disks.items)) s.lanes) }
+{
+    let lists = match deal(alloc, LANES as usize, disks) {
+        Ok(lists) => lists,
+        Err(NoMemory) => return Err(NoMemory),
+    };
+    let lanes = match make_lanes(alloc, grain, lists) {
+        Ok(lanes) => lanes,
+        Err(NoMemory) => return Err(NoMemory),
+    };
+    Ok(Store::from_parts_in(alloc, Control::new(alloc, grain), lanes))
 }
 
 /// The stop of an error of the writer.

@@ -4,9 +4,10 @@ ghost use Rattle.std.specs.Prelude.{◌≡◌, ◌≢◌, ◌≤◌, ◌↔◌, 
 ghost use Rattle.fc_changed.specs.Row.{Row};
 ghost use Rattle.fc_entry.specs.HistoryState.{HistoryState};
 ghost use Rattle.fc_legal.specs.Whole.{Whole};
-ghost use Rattle.fc_noted.specs.Making.{CopiesNext, IsMarkedNext, StepMade, WayMade, done, volume_noted};
+ghost use Rattle.fc_noted.specs.Making.{CopiesNext, IsMarkedNext, StepMade, WayMade, done};
 ghost use Rattle.fc_noted.specs.Noted.{CanStep, IsDoing};
 ghost use Rattle.law_noted.specs.DataSteps.{copies_nothing};
+ghost use Rattle.law_noted.specs.Going.{volume_noted};
 ghost use Rattle.law_noted.specs.Records.{record_after};
 ghost use Rattle.fc_steps.specs.UnderWay.{next_of};
 ghost use Rattle.fc_steps.specs.declared.stepping.Next.TheVariants.{Move as NextMove, Own, Over};
@@ -280,19 +281,15 @@ impl<D: Mdisk, M: MetaDisk> Noted<D, M> {
 fn volume_noted(doing: &Doing) -> Option<VolId>
     ensures { result ≡ volume_noted doing.now.steps }
 {
-    match doing.steps.ask {
-        Ask::Write(part) => {
-            if doing.steps.written {
-                return Some(part.volume);
-            }
-            match doing.steps.stop {
-                Some(Stop::Failed(Some(torn))) => match torn.side {
-                    Side::Now => Some(torn.volume),
-                    Side::Under => None,
-                },
-                _ => None,
-            }
-        }
+    let Ask::Write(part) = doing.steps.ask else {
+        return None;
+    };
+    match doing.steps.stop {
+        None if doing.steps.written => Some(part.volume),
+        Some(Stop::Failed(Some(torn))) => match torn.side {
+            Side::Now => Some(torn.volume),
+            Side::Under => None,
+        },
         _ => None,
     }
 }

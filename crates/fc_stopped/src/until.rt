@@ -31,11 +31,10 @@ use fc_io::source::Source;
 use fc_marks::NotedStop;
 use fc_mdisk::mdisk::Mdisk;
 use fc_metadisk::StopMeta;
-use fc_noted::Noted;
+use fc_noted::{Noted, first_store};
 use fc_recovered::LaneDisks;
 use fc_run::form::Form;
 use fc_run::session::run_session;
-use fc_store::store::Store;
 use std::alloc::Global;
 use std::mem;
 
@@ -255,7 +254,7 @@ pub fn run_over<D: Mdisk, S: Source, K: Sink>(
         return Status::NoMemory;
     };
     let taken = mem::replace(disks, room);
-    let store = match Store::new(alloc, GRAIN, taken) {
+    let store = match first_store(alloc, GRAIN, taken) {
         Ok(store) => store,
         Err(NoMemory) => return Status::NoMemory,
     };

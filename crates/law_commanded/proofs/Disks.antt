@@ -1,24 +1,23 @@
 -- The disks that a lane holds, each volume's with its name; what is lost is what it was on other disks.
-use Rattle.std.proofs.Common.{◌≡◌, ℕ, suc, ◌+◌, ◌<◌, ◌==◌, ◌&&◌, Bool, true, false, cond, not, Option, Some, None, List, [], ◌∷◌, ◌++◌, length, map, Contains, inl, inr, refl, sym, ap, subst, ◌∙◌, arith}
+use Rattle.std.proofs.Common.{◌≡◌, ◌⊎◌, ℕ, suc, ◌+◌, ◌<◌, ◌≤◌, ◌==◌, Bool, true, false, cond, Option, Some, None, List, [], ◌∷◌, ◌++◌, length, map, replicate, Contains, inl, inr, refl, sym, ap, ◌∙◌, arith}
 use Rattle.std.specs.List.{filter, range_with_len}
-use Rattle.std.specs.Prelude.{ltb}
-use Rattle.std.proofs.lemmas.Bool.{eqb-true, eq-eqb, ne_eqb, lt-ltb}
+use Rattle.std.proofs.lemmas.Bool.{eqb-true, eq-eqb, ne_eqb}
 use Rattle.std.proofs.lemmas.List.{length-append}
 use Rattle.std.proofs.lemmas.List.Elements.{Contains-append_cases, Contains-append_left, filter-append}
 use Rattle.std.proofs.lemmas.List.FromFn.{get_or-map-range_with_len, length-map-range_with_len}
+use Rattle.fc_base.specs.Pools.{Pool, of_kind}
 use Rattle.fc_base.specs.declared.disk.DiskKind.{DiskKind}
-use Rattle.fc_decided.proofs.Lists.{any_there, find_none, find_one, filter_from, first_in, map_from, map_in}
+use Rattle.fc_base.specs.declared.disk.DiskKind.TheVariants.{Flat, Thin}
+use Rattle.fc_decided.proofs.Lists.{any_there, find_none, find_one, in_cases, map_from, map_in, none_in}
 use Rattle.fc_entry.specs.Picture.{Content, Bytes, Lost, content_at}
 use Rattle.fc_grains.specs.Grains.{GrainsState}
 use Rattle.fc_grains.specs.Volumes.{VolumeGrains, volume_of}
 use Rattle.fc_kept.specs.Disks.{NamedDisk, disk_of, is_of, on_disk}
 use Rattle.fc_kept.specs.Kept.{Kept, is_lost_in}
-use Rattle.fc_mdisk.specs.Disk.{DiskState}
+use Rattle.fc_mdisk.specs.Disk.{blank, grain_at}
 use Rattle.fc_rules.specs.LaneTold.{LaneOf, number_at}
-use Rattle.law_crash.specs.Leaving.{is_free, is_kind}
-use Rattle.fc_held.specs.Held.{AreOnce, Matches, is_of_kind, is_unknown}
-use Rattle.law_commanded.specs.Lanes.{IsCounted}
-use Rattle.law_commanded.proofs.Counting.{count_reverse}
+use Rattle.law_crash.specs.Leaving.{is_free}
+use Rattle.fc_held.specs.Held.{AreOnce, HasDisk, Matches, is_known}
 
 -- ---- the disks
 
@@ -42,46 +41,59 @@ own_disk l ds x =
       };
     }
 
-abbrev pub no_name : DiskState → NamedDisk
-no_name d = record { volume = None; disk = d }
+-- And disks of each kind that are free.
+abbrev pub free_disk : DiskKind → NamedDisk
+free_disk kind = record { volume = None; disk = blank kind None }
 
-abbrev pub lane_disks : LaneOf → List NamedDisk → GrainsState → List NamedDisk
-lane_disks l ds g = map (own_disk l ds) g.volumes ++ map no_name (g.pooled ++ g.aside)
+abbrev pub free_disks : Pool → List NamedDisk
+free_disks free = replicate free.flat (free_disk Flat) ++ replicate free.thin (free_disk Thin)
+
+abbrev pub lane_disks : LaneOf → List NamedDisk → Pool → GrainsState → List NamedDisk
+lane_disks l ds free g = map (own_disk l ds) g.volumes ++ free_disks free
 
 -- ---- whose they are
 
-named_is : (l : LaneOf) (ds : List NamedDisk) (v : ℕ) (x : VolumeGrains) → is_of v (own_disk l ds x) ≡ (x.volume.0 == v)
-named_is l ds v x = refl
+-- a free disk has no name
+in_replicate : {X : Type 0} (n : ℕ) (x y : X) → Contains (replicate n x) y → x ≡ y
+in_replicate ℕ.zero x y c = absurd (none_in y c)
+in_replicate (ℕ.suc n) x y c = elim (in_cases x y (replicate n x) c) [
+  | inl e ↦ e
+  | inr later ↦ in_replicate n x y later
+]
 
-one_of : (l : LaneOf) (ds : List NamedDisk) (g : GrainsState) (x : VolumeGrains) → AreOnce g.volumes → Contains g.volumes x → (d : NamedDisk) → Contains (lane_disks l ds g) d → is_of x.volume.0 d ≡ true → d ≡ own_disk l ds x
-one_of l ds g x once c d inside t =
-    elim (Contains-append_cases (map (own_disk l ds) g.volumes) (map no_name (g.pooled ++ g.aside)) d inside) [
+nameless : (free : Pool) (v : ℕ) (d : NamedDisk) → Contains (free_disks free) d → is_of v d ≡ false
+nameless free v d c =
+    elim (Contains-append_cases (replicate free.flat (free_disk Flat)) (replicate free.thin (free_disk Thin)) d c) [
+      | inl one ↦ sym (ap (is_of v) (in_replicate free.flat (free_disk Flat) d one))
+      | inr other ↦ sym (ap (is_of v) (in_replicate free.thin (free_disk Thin) d other))
+    ]
+
+one_of : (l : LaneOf) (ds : List NamedDisk) (free : Pool) (g : GrainsState) (x : VolumeGrains) → AreOnce g.volumes → Contains g.volumes x → (d : NamedDisk) → Contains (lane_disks l ds free g) d → is_of x.volume.0 d ≡ true →
+    d ≡ own_disk l ds x
+one_of l ds free g x once c d inside t =
+    elim (Contains-append_cases (map (own_disk l ds) g.volumes) (free_disks free) d inside) [
       | inl own ↦
           let z = map_from (own_disk l ds) g.volumes d own in
           let id : z.0.volume.0 ≡ x.volume.0 = eqb-true z.0.volume.0 x.volume.0 (ap (is_of x.volume.0) z.2 ∙ t) in
           let same : z.0 ≡ x = sym (once z.0 z.1) ∙ (ap (volume_of g.volumes) id ∙ once x c) in
           sym z.2 ∙ ap (own_disk l ds) same
-      | inr free ↦
-          let z = map_from no_name (g.pooled ++ g.aside) d free in
-          absurd (let q : false ≡ true = ap (is_of x.volume.0) z.2 ∙ t in cc)
+      | inr other ↦ absurd (let q : false ≡ true = sym (nameless free x.volume.0 d other) ∙ t in cc)
     ]
 
-pub own_is : (l : LaneOf) (ds : List NamedDisk) (g : GrainsState) (x : VolumeGrains) → AreOnce g.volumes → Contains g.volumes x → disk_of (lane_disks l ds g) x.volume.0 ≡ Some (own_disk l ds x)
-own_is l ds g x once c =
-    find_one (is_of x.volume.0) (lane_disks l ds g) (own_disk l ds x)
-    (Contains-append_left (map (own_disk l ds) g.volumes) (map no_name (g.pooled ++ g.aside)) (own_disk l ds x) (map_in (own_disk l ds) g.volumes x c))
-    (eq-eqb x.volume.0 x.volume.0 refl) (one_of l ds g x once c)
+pub own_is : (l : LaneOf) (ds : List NamedDisk) (free : Pool) (g : GrainsState) (x : VolumeGrains) → AreOnce g.volumes → Contains g.volumes x → disk_of (lane_disks l ds free g) x.volume.0 ≡ Some (own_disk l ds x)
+own_is l ds free g x once c =
+    find_one (is_of x.volume.0) (lane_disks l ds free g) (own_disk l ds x)
+    (Contains-append_left (map (own_disk l ds) g.volumes) (free_disks free) (own_disk l ds x) (map_in (own_disk l ds) g.volumes x c))
+    (eq-eqb x.volume.0 x.volume.0 refl) (one_of l ds free g x once c)
 
-pub none_is : (l : LaneOf) (ds : List NamedDisk) (g : GrainsState) (v : ℕ) → ((x : VolumeGrains) → Contains g.volumes x → x.volume.0 ≡ v → ⊥) → disk_of (lane_disks l ds g) v ≡ None
-none_is l ds g v never =
-    find_none (is_of v) (lane_disks l ds g)
-    (λ d inside. elim (Contains-append_cases (map (own_disk l ds) g.volumes) (map no_name (g.pooled ++ g.aside)) d inside) [
+pub none_is : (l : LaneOf) (ds : List NamedDisk) (free : Pool) (g : GrainsState) (v : ℕ) → ((x : VolumeGrains) → Contains g.volumes x → x.volume.0 ≡ v → ⊥) → disk_of (lane_disks l ds free g) v ≡ None
+none_is l ds free g v never =
+    find_none (is_of v) (lane_disks l ds free g)
+    (λ d inside. elim (Contains-append_cases (map (own_disk l ds) g.volumes) (free_disks free) d inside) [
       | inl own ↦
           let z = map_from (own_disk l ds) g.volumes d own in
           sym (ap (is_of v) z.2) ∙ ne_eqb z.0.volume.0 v (never z.0 z.1)
-      | inr free ↦
-          let z = map_from no_name (g.pooled ++ g.aside) d free in
-          sym (ap (is_of v) z.2)
+      | inr other ↦ nameless free v d other
     ])
 
 -- ---- what they have
@@ -104,56 +116,58 @@ none_free : (kind : DiskKind) (l : LaneOf) (ds : List NamedDisk) (xs : List Volu
 none_free kind l ds [] = refl
 none_free kind l ds (x ∷ xs) = none_free kind l ds xs
 
-all_free : (kind : DiskKind) (xs : List DiskState) → length (filter (is_free kind) (map no_name xs)) ≡ length (filter (is_of_kind kind) xs)
-all_free kind [] = refl
-all_free kind (x ∷ xs) = by (is_kind kind x.kind) (all_free kind xs)
-  where
-    by : (b : Bool) → length (filter (is_free kind) (map no_name xs)) ≡ length (filter (is_of_kind kind) xs) →
-        length (cond b (no_name x ∷ filter (is_free kind) (map no_name xs)) (filter (is_free kind) (map no_name xs))) ≡ length (cond b (x ∷ filter (is_of_kind kind) xs) (filter (is_of_kind kind) xs))
-    by true e = ap suc e
-    by false e = e
+both : {X : Type 0} (p : X → Bool) (xs ys : List X) → length (filter p (xs ++ ys)) ≡ length (filter p xs) + length (filter p ys)
+both p xs ys = ap length (filter-append p xs ys) ∙ length-append (filter p xs) (filter p ys)
 
-pub free_are : (kind : DiskKind) (l : LaneOf) (ds : List NamedDisk) (g : GrainsState) → length (filter (is_free kind) (lane_disks l ds g)) ≡ length (filter (is_of_kind kind) (g.pooled ++ g.aside))
-free_are kind l ds g =
-    let own : List NamedDisk = map (own_disk l ds) g.volumes in
-    let free : List NamedDisk = map no_name (g.pooled ++ g.aside) in
-    let both : length (filter (is_free kind) (own ++ free)) ≡ length (filter (is_free kind) own) + length (filter (is_free kind) free) =
-    ap length (filter-append (is_free kind) own free) ∙ length-append (filter (is_free kind) own) (filter (is_free kind) free) in
+as_many : {X : Type 0} (p : X → Bool) (n : ℕ) (x : X) → p x ≡ true → length (filter p (replicate n x)) ≡ n
+as_many p ℕ.zero x e = refl
+as_many p (ℕ.suc n) x e = ap (λ (c : Bool). length (cond c (x ∷ filter p (replicate n x)) (filter p (replicate n x)))) e ∙ ap suc (as_many p n x e)
+
+none_many : {X : Type 0} (p : X → Bool) (n : ℕ) (x : X) → p x ≡ false → length (filter p (replicate n x)) ≡ 0
+none_many p ℕ.zero x e = refl
+none_many p (ℕ.suc n) x e = ap (λ (c : Bool). length (cond c (x ∷ filter p (replicate n x)) (filter p (replicate n x)))) e ∙ none_many p n x e
+
+free_count : (kind : DiskKind) (free : Pool) → length (filter (is_free kind) (free_disks free)) ≡ of_kind kind free
+free_count Flat free =
+    let all = both (is_free Flat) (replicate free.flat (free_disk Flat)) (replicate free.thin (free_disk Thin)) in
+    let some = as_many (is_free Flat) free.flat (free_disk Flat) refl in
+    let none = none_many (is_free Flat) free.thin (free_disk Thin) refl in
+    omega (arith, all, some, none)
+free_count Thin free =
+    let all = both (is_free Thin) (replicate free.flat (free_disk Flat)) (replicate free.thin (free_disk Thin)) in
+    let some = as_many (is_free Thin) free.thin (free_disk Thin) refl in
+    let none = none_many (is_free Thin) free.flat (free_disk Flat) refl in
+    omega (arith, all, some, none)
+
+pub free_are : (kind : DiskKind) (l : LaneOf) (ds : List NamedDisk) (free : Pool) (g : GrainsState) → length (filter (is_free kind) (lane_disks l ds free g)) ≡ of_kind kind free
+free_are kind l ds free g =
+    let all = both (is_free kind) (map (own_disk l ds) g.volumes) (free_disks free) in
     let none = none_free kind l ds g.volumes in
-    let all = all_free kind (g.pooled ++ g.aside) in
-    omega (arith, both, none, all)
-
-none_unknown : (named : ℕ) (kind : DiskKind) (xs : List VolumeGrains) → ((x : VolumeGrains) → Contains xs x → x.volume.0 < named) → length (filter (is_unknown named kind) xs) ≡ 0
-none_unknown named kind xs below = by (filter (is_unknown named kind) xs) refl
-  where
-    known_is : (x : VolumeGrains) (b : Bool) → ltb x.volume.0 named ≡ b → b ≡ true → is_unknown named kind x ≡ false
-    known_is x true e t = ap (λ (c : Bool). not c && is_kind kind x.kind) e
-    known_is x false e t = absurd cc
-
-    by : (ys : List VolumeGrains) → filter (is_unknown named kind) xs ≡ ys → length ys ≡ 0
-    by [] e = refl
-    by (y ∷ ys) e =
-        let c = filter_from (is_unknown named kind) xs y (subst (λ (zs : List VolumeGrains). Contains zs y) (sym e) (first_in y ys)) in
-        absurd (let q : true ≡ false = sym c.1 ∙ known_is y true (lt-ltb y.volume.0 named (below y c.0)) refl in cc)
+    let some = free_count kind free in
+    omega (arith, all, none, some)
 
 -- ---- so they match
 
-pub disks_match : (l : LaneOf) (named : ℕ) (k : Kept) (ds : List NamedDisk) (g : GrainsState) → IsCounted g → ((x : VolumeGrains) → Contains g.volumes x → x.volume.0 < named) →
+pub record CanMatch (named : ℕ) (free : Pool) (g : GrainsState) : Type 0 where
+  pub once : AreOnce g.volumes
+  pub below : (x : VolumeGrains) → Contains g.volumes x → x.volume.0 < named
+  pub enough : (kind : DiskKind) → of_kind kind free + length (filter (is_known named kind) g.volumes) ≡ of_kind kind g.disks
+
+pub disks_match : (l : LaneOf) (named : ℕ) (k : Kept) (ds : List NamedDisk) (free : Pool) (g : GrainsState) → CanMatch named free g →
     ((x : VolumeGrains) (y : ℕ) → Contains g.volumes x → y < length x.contents → is_lost_in k.lost x.volume.0 (number_at l y) ≡ false → content_at x.contents y ≡ on_disk l (disk_of ds x.volume.0) y) →
-    Matches l named k g (lane_disks l ds g)
-disks_match l named k ds g counted below same =
+    Matches l named k g (lane_disks l ds free g)
+disks_match l named k ds free g can same =
     record {
-      once = counted.once;
-      there = λ x c lt. (own_disk l ds x, own_is l ds g x counted.once c, refl, own_size l ds x);
-      none = λ v c. none_is l ds g v (λ x inside id. elim c [
-        | inl le ↦ let lt : x.volume.0 < named = below x inside in absurd (omega (arith, le, lt, id))
+      once = can.once;
+      there = λ x c lt. (own_disk l ds x, own_is l ds free g x can.once c, refl, own_size l ds x);
+      none = λ v c. none_is l ds free g v (λ x inside id. elim c [
+        | inl le ↦ let lt : x.volume.0 < named = can.below x inside in absurd (omega (arith, le, lt, id))
         | inr f ↦ absurd (let q : true ≡ false = sym (any_there (λ (z : VolumeGrains). z.volume.0 == v) g.volumes x inside (eq-eqb x.volume.0 v id)) ∙ f in cc)
       ]);
       free = λ kind.
-          let all = free_are kind l ds g in
-          let turned = count_reverse (is_unknown named kind) g.volumes in
-          let none = none_unknown named kind g.volumes below in
-          omega (arith, all, turned, none);
+          let some = free_are kind l ds free g in
+          let all = can.enough kind in
+          omega (arith, some, all);
       bytes = λ x y c lt inside lost. same x y c inside lost
-          ∙ (sym (own_bytes l ds x y inside) ∙ ap (λ (o : Option NamedDisk). on_disk l o y) (sym (own_is l ds g x counted.once c)));
+          ∙ (sym (own_bytes l ds x y inside) ∙ ap (λ (o : Option NamedDisk). on_disk l o y) (sym (own_is l ds free g x can.once c)));
     }

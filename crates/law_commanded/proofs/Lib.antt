@@ -1,16 +1,16 @@
 -- The law of commands on disks.
-pub mod Counting
-pub mod Known
 pub mod Standing
-pub mod Disks
+pub mod Unique
+pub mod Pools
 pub mod Lost
+pub mod Leaving
+pub mod Now
+pub mod Disks
 pub mod Naming
-pub mod Lasting
 pub mod Anew
-pub mod Before
-pub mod Whole
-pub mod Unchanged
 pub mod Removing
 pub mod Chains
+pub mod Unchanged
 pub mod Without
-pub mod Sound
+pub mod Going
+pub mod Whole

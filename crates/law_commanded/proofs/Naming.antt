@@ -1,11 +1,13 @@
 -- The disks of all lanes, with the names of the volumes that are left.
-use Rattle.std.proofs.Common.{◌≡◌, ℕ, ◌+◌, mod-lt, ◌<◌, ◌≤◌, false, IsSome, Option, Some, None, List, [], ◌∷◌, ◌++◌, length, map, get_or, Contains, inl, inr, refl, sym, ap, subst, ◌∙◌, arith}
+use Rattle.std.proofs.Common.{◌-◌, ◌≡◌, ℕ, ◌+◌, mod-lt, ◌<◌, ◌≤◌, false, IsSome, Option, Some, None, List, [], ◌∷◌, ◌++◌, length, map, get_or, Contains, inl, inr, refl, sym, ap, subst, ◌∙◌, arith}
 use Rattle.std.specs.List.{filter, range_with_len}
 use Rattle.std.proofs.lemmas.Bool.{cases_lt}
 use Rattle.std.proofs.lemmas.List.{length-append}
 use Rattle.std.proofs.lemmas.List.Elements.{filter-append}
 use Rattle.std.proofs.lemmas.List.FromFn.{get_or-map-range_with_len, length-map-range_with_len}
-use Rattle.fc_base.specs.Pools.{of_kind}
+use Rattle.fc_base.specs.Pools.{Pool, of_kind}
+use Rattle.fc_base.specs.declared.disk.DiskKind.TheVariants.{Flat, Thin}
+use Rattle.fc_base.specs.declared.disk.DiskKind.{DiskKind}
 use Rattle.fc_base.specs.declared.size.GrainSize.{GrainSize}
 use Rattle.fc_base.specs.declared.volume.Volume.{Volume}
 use Rattle.fc_books.specs.Sound.{AreSound}
@@ -23,24 +25,36 @@ use Rattle.law_crash.proofs.Lost.{all_in_is}
 use Rattle.law_crash.specs.Leaving.{AreFit, HaveTheirDisks, is_free}
 use Rattle.law_crash.specs.Points.{on_disks}
 use Rattle.law_crash.specs.Running.{StayAs}
-use Rattle.fc_held.specs.Held.{MatchAll, Matches, is_of_kind}
+use Rattle.fc_held.specs.Held.{MatchAll, Matches, is_known}
 use Rattle.law_commanded.specs.Lanes.{HaveLanes}
-use Rattle.law_commanded.proofs.Disks.{disks_match, free_are, lane_disks, none_is, own_bytes, own_disk, own_is, own_size}
+use Rattle.law_commanded.proofs.Disks.{CanMatch, disks_match, free_are, lane_disks, none_is, own_bytes, own_disk, own_is, own_size}
+use Rattle.law_commanded.proofs.Now.{all_given, given_kind}
+use Rattle.law_commanded.proofs.Pools.{how_many}
 use Rattle.law_commanded.proofs.Standing.{LaneHas, lane_has}
 
--- The lanes stand for this, and there are disks for each; the other lane is any.
+-- The lanes stand for this, there are disks for each, and a lane has as many of each kind as its pool and the volumes take; the other lane
+-- is any.
 pub record IsSet (grain : GrainSize) (w : Whole) (ds : List (List NamedDisk)) (ls : List LaneView) : Type 0 where
   pub sound : AreSound w.books
   pub count : length ds ≡ lanes w
   pub some : 0 < lanes w
   pub lanes_are : HaveLanes grain w ls
+  pub room : (i : ℕ) (d : LaneView) (kind : DiskKind) → i < lanes w →
+      of_kind kind (pool_at w.books.pools i) + how_many kind w.books.tables.volumes ≤ of_kind kind (get_or ls i d).grains.disks
 
 module _ (grain : GrainSize) (w : Whole) (ds : List (List NamedDisk)) (ls : List LaneView) (other : LaneView) (s : IsSet grain w ds ls) where
   abbrev grains_of : ℕ → GrainsState
   grains_of i = (get_or ls i other).grains
 
+  abbrev free_for : ℕ → Pool
+  free_for i =
+      record {
+        flat = (grains_of i).disks.flat - how_many Flat w.books.tables.volumes;
+        thin = (grains_of i).disks.thin - how_many Thin w.books.tables.volumes;
+      }
+
   abbrev disks_for : ℕ → List NamedDisk
-  disks_for i = lane_disks (lane_at grain w i) (disks_at ds i) (grains_of i)
+  disks_for i = lane_disks (lane_at grain w i) (disks_at ds i) (free_for i) (grains_of i)
 
   abbrev pub all_disks : List (List NamedDisk)
   all_disks = map disks_for (range_with_len 0 (length ds))
@@ -58,7 +72,7 @@ module _ (grain : GrainSize) (w : Whole) (ds : List (List NamedDisk)) (ls : List
   of_lane i il = subst (λ (n : ℕ). i < n) (sym s.lanes_are.count) il
 
   has : (i : ℕ) → i < lanes w → LaneHas grain w i (grains_of i)
-  has i il = lane_has grain w i (get_or ls i other) il s.sound (s.lanes_are.each i other (of_lane i il)) (s.lanes_are.counted i other (of_lane i il))
+  has i il = lane_has grain w i (get_or ls i other) il s.sound (s.lanes_are.each i other (of_lane i il))
 
   -- ---- a volume's disk
 
@@ -68,13 +82,13 @@ module _ (grain : GrainSize) (w : Whole) (ds : List (List NamedDisk)) (ls : List
       let h = (has i il).has v c in
       ap (λ (xs : List NamedDisk). disk_of xs v.id.0) (at i il)
       ∙ subst (λ (n : ℕ). disk_of (disks_for i) n ≡ Some (own_disk (lane_at grain w i) (disks_at ds i) h.held)) h.id_is
-      (own_is (lane_at grain w i) (disks_at ds i) (grains_of i) h.held (s.lanes_are.counted i other (of_lane i il)).once h.inside)
+      (own_is (lane_at grain w i) (disks_at ds i) (free_for i) (grains_of i) h.held (has i il).once h.inside)
 
   no_disk : (i v : ℕ) → w.books.next_volume ≤ v → disk_of (disks_at all_disks i) v ≡ None
   no_disk i v le =
       elim (cases_lt i (lanes w)) [
         | inl il ↦ ap (λ (xs : List NamedDisk). disk_of xs v) (at i il)
-            ∙ none_is (lane_at grain w i) (disks_at ds i) (grains_of i) v (λ x c e.
+            ∙ none_is (lane_at grain w i) (disks_at ds i) (free_for i) (grains_of i) v (λ x c e.
             let t = (has i il).told x c in
             let lt : t.volume.id.0 < w.books.next_volume = all_in_is (λ (y : Volume). y.id.0 < w.books.next_volume) w.books.tables.volumes s.sound.tables.new_volume t.volume t.there in
             let id = t.id_is in
@@ -124,20 +138,27 @@ module _ (grain : GrainSize) (w : Whole) (ds : List (List NamedDisk)) (ls : List
 
   -- ---- each volume has its disk, and as many are free as the pools say
 
+  spare : (kind : DiskKind) (i : ℕ) → i < lanes w → of_kind kind (free_for i) + how_many kind w.books.tables.volumes ≡ of_kind kind (grains_of i).disks
+  spare Flat i il = let room = s.room i other Flat il in omega (arith, room)
+  spare Thin i il = let room = s.room i other Thin il in omega (arith, room)
+
+  known_are : (kind : DiskKind) (i : ℕ) → i < lanes w → length (filter (is_known w.books.next_volume kind) (grains_of i).volumes) ≡ how_many kind w.books.tables.volumes
+  known_are kind i il =
+      let vs : List Volume = w.books.tables.volumes in
+      (has i il).known_are w.books.next_volume kind
+      ∙ (given_kind w kind w.books.tables vs ∙ ap (how_many kind) (all_given w vs (all_in_is (λ (v : Volume). v.id.0 < w.books.next_volume) vs s.sound.tables.new_volume)))
+
   pub have_disks : HaveTheirDisks w all_disks
   have_disks =
       record {
         named = λ i v il c. subst IsSome (sym (its_disk i (inside i il) v c)) refl;
         free = λ i kind il.
             let below : i < lanes w = inside i il in
-            let g : GrainsState = grains_of i in
-            let pool : of_kind kind g.pool ≡ of_kind kind (pool_at w.books.pools i) = ap (of_kind kind) (has i below).pool in
-            let left = (s.lanes_are.counted i other (of_lane i below)).pool kind in
-            let all : length (filter (is_of_kind kind) (g.pooled ++ g.aside)) ≡ length (filter (is_of_kind kind) g.pooled) + length (filter (is_of_kind kind) g.aside) =
-            ap length (filter-append (is_of_kind kind) g.pooled g.aside) ∙ length-append (filter (is_of_kind kind) g.pooled) (filter (is_of_kind kind) g.aside) in
-            let free : length (filter (is_free kind) (disks_at all_disks i)) ≡ length (filter (is_of_kind kind) (g.pooled ++ g.aside)) =
-            ap (λ (xs : List NamedDisk). length (filter (is_free kind) xs)) (at i below) ∙ free_are kind (lane_at grain w i) (disks_at ds i) g in
-            omega (arith, pool, left, all, free);
+            let enough = spare kind i below in
+            let room = s.room i other kind below in
+            let free : length (filter (is_free kind) (disks_at all_disks i)) ≡ of_kind kind (free_for i) =
+            ap (λ (xs : List NamedDisk). length (filter (is_free kind) xs)) (at i below) ∙ free_are kind (lane_at grain w i) (disks_at ds i) (free_for i) (grains_of i) in
+            omega (arith, enough, room, free);
       }
 
   -- ---- they match what the lanes hold
@@ -147,6 +168,17 @@ module _ (grain : GrainSize) (w : Whole) (ds : List (List NamedDisk)) (ls : List
       let t = (has i il).told x c in
       subst (λ (n : ℕ). n < w.books.next_volume) t.id_is
       (all_in_is (λ (y : Volume). y.id.0 < w.books.next_volume) w.books.tables.volumes s.sound.tables.new_volume t.volume t.there)
+
+  can_match : (i : ℕ) → i < lanes w → CanMatch w.books.next_volume (free_for i) (grains_of i)
+  can_match i il =
+      record {
+        once = (has i il).once;
+        below = below_next i il;
+        enough = λ kind.
+            let all = spare kind i il in
+            let known = known_are kind i il in
+            omega (arith, all, known);
+      }
 
   default_is : (xs : List LaneView) (i : ℕ) (d e : LaneView) → i < length xs → get_or xs i d ≡ get_or xs i e
   default_is [] i d e il = absurd (omega (arith, il))
@@ -164,7 +196,7 @@ module _ (grain : GrainSize) (w : Whole) (ds : List (List NamedDisk)) (ls : List
             let below : i < lanes w = inside i il in
             let named : ℕ = w.books.next_volume in
             let m : Matches (lane_at grain w i) named k (grains_of i) (disks_for i) =
-            disks_match (lane_at grain w i) named k (disks_at ds i) (grains_of i) (s.lanes_are.counted i other (of_lane i below)) (below_next i below) (same i below) in
+            disks_match (lane_at grain w i) named k (disks_at ds i) (free_for i) (grains_of i) (can_match i below) (same i below) in
             let lane : ℕ → LaneOf = λ n. record { lane = i; lanes = n; grain = grain } in
             subst (λ (n : ℕ). Matches (lane n) named k (get_or ls i d).grains (disks_at all_disks i)) (sym as_many)
             (subst (λ (v : LaneView). Matches (lane_at grain w i) named k v.grains (disks_at all_disks i)) (default_is ls i other d (of_lane i below))

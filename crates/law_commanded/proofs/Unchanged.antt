@@ -23,26 +23,25 @@ use Rattle.fc_entry.specs.declared.entry.Entry.{Entry}
 use Rattle.fc_follow.specs.Following.{event_notes, restarts}
 use Rattle.fc_grains.specs.Grains.{GrainsState}
 use Rattle.fc_kept.specs.Actions.{Action.Fold, actions_of_command, has_effect}
-use Rattle.fc_kept.specs.Marks.{LeastLeft.decided}
+use Rattle.fc_kept.specs.Marks.{LeastLeft, LeastLeft.decided}
 use Rattle.fc_kept.specs.Recoverable.{Says}
 use Rattle.fc_lane.specs.Lane.{LaneView}
 use Rattle.fc_lanes.specs.AllLanes.{EachLane}
 use Rattle.fc_legal.specs.Steps.{after_settling, decided_on, one_more, rows_after}
-use Rattle.fc_legal.specs.Whole.{Whole, lanes, pool_at}
+use Rattle.fc_legal.specs.Whole.{Whole, lanes}
 use Rattle.law_crash.proofs.Lost.{all_in_is}
 use Rattle.law_crash.proofs.Resting.{AreStill, decide_rests, settle_rests}
 use Rattle.law_crash.proofs.Whole.{crash_law_holds}
 use Rattle.law_crash.specs.Leaving.{HaveTheirDisks}
 use Rattle.law_crash.specs.Points.{Point}
 use Rattle.law_crash.specs.Running.{Does.unchanged, Run.more}
-use Rattle.fc_held.specs.Held.{MatchAll, is_of_kind}
+use Rattle.fc_held.specs.Held.{MatchAll}
 use Rattle.law_noted.specs.Runs.{HasRun}
-use Rattle.law_commanded.specs.Lanes.{HaveLanes, StaysKnown}
-use Rattle.law_commanded.specs.Law.{HasCome, IsCommanded, decision_on, least_behind, left_behind}
-use Rattle.law_commanded.proofs.Anew.{Here, here, left_sound, still_lanes}
-use Rattle.law_commanded.proofs.Known.{match_all_still}
-use Rattle.law_commanded.proofs.Lasting.{IsLeft, lost_left_is}
-use Rattle.law_commanded.proofs.Standing.{LaneHas, lane_has}
+use Rattle.law_commanded.specs.Lanes.{HasSameDisks, HaveLanes, NoneWent, was_given}
+use Rattle.law_commanded.specs.Law.{AreLanesIn, HasCome, IsCommanded, decision_on, least_behind, left_behind}
+use Rattle.law_commanded.proofs.Leaving.{Here, from_run}
+use Rattle.law_commanded.proofs.Now.{all_given, match_now, still_lanes}
+use Rattle.law_commanded.proofs.Pools.{command_no_more, how_many}
 
 -- ---- events that note nothing
 
@@ -107,8 +106,7 @@ rows_stay grain w command loop none =
 
 module _ (grain : GrainSize) (entries : List Entry) (w : Whole) (least : List Row) (command : Command) (loop : Option (List VolId)) (entry : Entry) (old new : List LaneView) (p : Point)
     (come : HasCome grain entries w least old p) (few : w.entries < 262144) (c : IsCommanded grain w command loop entry)
-    (none : actions_of_command (settle w.books) (decision_on grain w command loop) ≡ []) (stays : EachLane (StaysKnown w.books.next_volume) old new)
-    (are : HaveLanes grain (left_behind grain w command loop) new) (other : LaneView) where
+    (none : actions_of_command (settle w.books) (decision_on grain w command loop) ≡ []) (stand : HaveLanes grain (left_behind grain w command loop) new) (same : EachLane HasSameDisks old new) where
   abbrev left : Whole
   left = left_behind grain w command loop
 
@@ -116,7 +114,10 @@ module _ (grain : GrainSize) (entries : List Entry) (w : Whole) (least : List Ro
   least_left = least_behind grain w least command loop
 
   begin : Here grain w least p
-  begin = here grain entries w least command loop entry old p come few c
+  begin = from_run grain entries w least p come.run (omega (arith, few))
+
+  marks : LeastLeft grain w least command left least_left
+  marks = decided loop c.told
 
   says : Says grain p.disks p.kept left least_left
   says = crash_law_holds.stays grain (2 * w.entries) w least command loop p (omega (arith, few)) begin.on begin.stands none
@@ -127,64 +128,25 @@ module _ (grain : GrainSize) (entries : List Entry) (w : Whole) (least : List Ro
   pub next_is : left.books.next_volume ≡ w.books.next_volume
   next_is = sym says.next_volume ∙ begin.stands.says.next_volume
 
-  some : 0 < lanes w
-  some = begin.on.reached.stands.each_lane.some
+  none_went : NoneWent w left
+  none_went =
+      ap (λ (t : Tables). filter (was_given w) t.volumes) tables
+      ∙ all_given w w.books.tables.volumes (all_in_is (λ (v : Volume). v.id.0 < w.books.next_volume) w.books.tables.volumes begin.on.reached.stands.sound.tables.new_volume)
 
-  in_new : (i : ℕ) → i < length p.disks → (i < lanes w) × (i < length new)
-  in_new i il =
-      let below : i < lanes w = subst (λ (n : ℕ). i < n) begin.stands.says.count il in
-      (below, subst (λ (n : ℕ). i < n) (sym are.count) below)
-
-  has : (i : ℕ) → i < lanes w → i < length new → LaneHas grain left i (get_or new i other).grains
-  has i il inside =
-      lane_has grain left i (get_or new i other) il (left_sound grain entries w least command loop entry old p come few c) (are.each i other inside) (are.counted i other inside)
-
-  match_new : MatchAll grain w.books.next_volume p.kept new p.disks
-  match_new = match_all_still grain w.books.next_volume p.kept old new p.disks stays come.lanes_are.counted are.counted come.matches
+  in_lanes : AreLanesIn grain w least command old new
+  in_lanes = record { for = left; least_for = least_left; leaves = marks; stand = stand; none_went = none_went; disks = same }
 
   have : HaveTheirDisks (one_more left) p.disks
   have =
       record {
-        named = λ i v il inside. come.run.have.named i v il (subst (λ (t : Tables). Contains t.volumes v) tables inside);
+        named = λ i v il inside. begin.have.named i v il (subst (λ (t : Tables). Contains t.volumes v) tables inside);
         free = λ i kind il.
-            let x = in_new i il in
-            let g : GrainsState = (get_or new i other).grains in
-            let pool : of_kind kind g.pool ≡ of_kind kind (pool_at left.books.pools i) = ap (of_kind kind) (has i x.0 x.1).pool in
-            let left_disks = (are.counted i other x.1).pool kind in
-            let all : length (filter (is_of_kind kind) (g.pooled ++ g.aside)) ≡ length (filter (is_of_kind kind) g.pooled) + length (filter (is_of_kind kind) g.aside) =
-            ap length (filter-append (is_of_kind kind) g.pooled g.aside) ∙ length-append (filter (is_of_kind kind) g.pooled) (filter (is_of_kind kind) g.aside) in
-            let free = (match_new.each i other il).free kind in
-            omega (arith, pool, left_disks, all, free);
-      }
-
-  is_left : IsLeft grain w left None old new p.kept
-  is_left =
-      record {
-        sound = begin.on.reached.stands.sound;
-        left_sound = left_sound grain entries w least command loop entry old p come few c;
-        kept_sound = begin.stands.says.sound;
-        tables = begin.stands.says.tables;
-        some = some;
-        as_many = refl;
-        were = come.lanes_are;
-        are = are;
-        after = record {
-          count = stays.count;
-          each = λ i d il. record {
-            known_is = (stays.each i d il).known_is;
-            zero = λ x y inside le lt.
-                let below : i < lanes w = subst (λ (n : ℕ). i < n) come.lanes_are.count il in
-                let now : i < length new = subst (λ (n : ℕ). i < n) (sym stays.count) il in
-                let t = (lane_has grain left i (get_or new i d) below (left_sound grain entries w least command loop entry old p come few c) (are.each i d now) (are.counted i d now)).told x inside in
-                let given : t.volume.id.0 < left.books.next_volume = all_in_is (λ (z : Volume). z.id.0 < left.books.next_volume) left.books.tables.volumes
-                (left_sound grain entries w least command loop entry old p come few c).tables.new_volume t.volume t.there in
-                let id = t.id_is in
-                let next = next_is in
-                absurd (omega (arith, given, id, le, next));
-            disks = (stays.each i d il).disks;
-          };
-        };
-        lost = come.lost;
+            let below : i < lanes w = subst (λ (n : ℕ). i < n) begin.stands.says.count il in
+            let pools : length w.books.pools ≡ lanes w = begin.on.reached.stands.each_lane.pools in
+            let less = command_no_more grain (2 * w.entries) w command loop kind i (omega (arith, few)) begin.on.reached.stands c.told (subst (λ (n : ℕ). i < n) (sym pools) below) in
+            let count : how_many kind left.books.tables.volumes ≡ how_many kind w.books.tables.volumes = ap (λ (t : Tables). how_many kind t.volumes) tables in
+            let free = begin.have.free i kind il in
+            omega (arith, less, count, free);
       }
 
   runs : HasRun grain (entries ++ entry ∷ []) (one_more left) least_left p
@@ -196,7 +158,7 @@ module _ (grain : GrainSize) (entries : List Entry) (w : Whole) (least : List Ro
         some = r.some;
         count = r.count;
         unnamed = r.unnamed;
-        run = more entries w least p entry (one_more left) least_left p r.run c.step (unchanged command left least_left c.request_is (decided loop c.told) says);
+        run = more entries w least p entry (one_more left) least_left p r.run c.step (unchanged command left least_left c.request_is marks says);
         have = have;
       }
 
@@ -204,7 +166,6 @@ module _ (grain : GrainSize) (entries : List Entry) (w : Whole) (least : List Ro
   comes_still =
       record {
         run = runs;
-        lanes_are = still_lanes grain entries w least command loop entry old p come few c new are;
-        matches = subst (λ (n : ℕ). MatchAll grain n p.kept new p.disks) (sym next_is) match_new;
-        lost = λ v g i gl. sym (lost_left_is grain w left None old new other p.kept is_left v g i gl);
+        lanes_are = still_lanes grain left new stand;
+        matches = subst (λ (n : ℕ). MatchAll grain n p.kept new p.disks) (sym next_is) (match_now grain entries w least command old new p come begin few in_lanes);
       }

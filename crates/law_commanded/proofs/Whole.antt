@@ -7,7 +7,7 @@ use Rattle.fc_lane.specs.Lane.{LaneView}
 use Rattle.fc_legal.specs.Whole.{Whole}
 use Rattle.law_crash.specs.Points.{Point}
 use Rattle.law_commanded.specs.Law.{HasCome}
-use Rattle.law_commanded.proofs.Anew.{from_run}
+use Rattle.law_commanded.proofs.Leaving.{from_run}
 
 some_of : (ls : List LaneView) → 0 < length ls → LaneView
 some_of [] lt = absurd (omega (arith, lt))

@@ -18,6 +18,7 @@ use Rattle.fc_base.specs.declared.volume.Mapping.{Mapping}
 use Rattle.fc_base.specs.declared.volume.Volume.{Volume}
 use Rattle.fc_books.specs.After.{after_all, after_event, after_table_change}
 use Rattle.fc_books.specs.Books.{Books}
+use Rattle.fc_books.specs.Deciding.{settle}
 use Rattle.fc_books.specs.Sound.{AreSound}
 use Rattle.fc_books.specs.Work.{changes_work, cleans, copies, work_events}
 use Rattle.fc_changed.specs.Row.{Row}
@@ -29,6 +30,7 @@ use Rattle.fc_imaging.specs.Imaging.{lost_grains, lost_of}
 use Rattle.fc_imaging.specs.Without.{begins_else, is_other, is_other_row, without}
 use Rattle.fc_kept.specs.Images.{chains_told, changes_told, kept_in, lost_in, lost_told, meta_of, row_in, slots_in}
 use Rattle.fc_kept.specs.Kept.{Kept, LostGrains}
+use Rattle.fc_kept.specs.Marks.{LeastLeft.settled_alone, least_by}
 use Rattle.fc_kept.specs.Sound.{HasTidyLost, IsSoundImage, IsSoundKept}
 use Rattle.fc_kept.proofs.Said.{said}
 use Rattle.fc_kept.proofs.Tidy.{image_sound}
@@ -41,15 +43,13 @@ use Rattle.fc_sheets.proofs.Finding.{live_place_at}
 use Rattle.law_crash.proofs.Lost.{all_in_is}
 use Rattle.law_crash.proofs.Resting.{AreStill}
 use Rattle.law_crash.specs.Points.{Point}
-use Rattle.law_stands.proofs.Standing.{command_lawful, stands_law_holds}
-use Rattle.law_volumes.proofs.Steps.{settling_keeps}
-use Rattle.law_commanded.specs.Lanes.{HaveLanes, StaysKnown}
-use Rattle.law_commanded.specs.Law.{HasCome, IsCommanded, NoneCame, by_lanes, gone_by, left_behind}
-use Rattle.law_commanded.proofs.Anew.{Here, all_behind, anew_kept, here, says_by}
+use Rattle.law_stands.proofs.Standing.{command_lawful}
+use Rattle.law_commanded.specs.Lanes.{HaveLanes, NoneCame}
+use Rattle.law_commanded.specs.Law.{HasCome, IsCommanded, by_lanes, gone_by, left_behind}
+use Rattle.law_commanded.proofs.Anew.{kept_left, says_by, sound_left}
 use Rattle.law_commanded.proofs.Chains.{AreApart, flat_left, flat_told, is_else, taken_out, tidy_left, tidy_slot}
-use Rattle.law_commanded.proofs.Lasting.{IsLeft, lost_left_is}
+use Rattle.law_commanded.proofs.Leaving.{Here, from_run}
 use Rattle.law_commanded.proofs.Removing.{IsRemoval, removal_is}
-use Rattle.law_commanded.proofs.Standing.{lane_has}
 use Rattle.law_commanded.proofs.Unchanged.{rows_still, still_noteless}
 
 -- ---- lists
@@ -174,7 +174,7 @@ image_is_sound gone w ls apart s =
 
 module _ (grain : GrainSize) (entries : List Entry) (w : Whole) (least : List Row) (command : Command) (loop : Option (List VolId)) (entry : Entry) (gone : VolId) (old now : List LaneView) (p : Point)
     (come : HasCome grain entries w least old p) (few : w.entries < 262144) (c : IsCommanded grain w command loop entry) (goes : gone_by grain w command loop ≡ Some gone)
-    (stays : EachLane (StaysKnown w.books.next_volume) old now) (are : HaveLanes grain (after_settling grain w) now) (other : LaneView) where
+    (are : HaveLanes grain (after_settling grain w) now) (other : LaneView) where
   abbrev settled : Whole
   settled = after_settling grain w
 
@@ -188,7 +188,7 @@ module _ (grain : GrainSize) (entries : List Entry) (w : Whole) (least : List Ro
   d = decided_on grain settled command loop
 
   begin : Here grain w least p
-  begin = here grain entries w least command loop entry old p come few c
+  begin = from_run grain entries w least p come.run (omega (arith, few))
 
   r : IsRemoval settled.books d gone
   r = removal_is sets grain settled.books command loop gone goes
@@ -258,61 +258,14 @@ module _ (grain : GrainSize) (entries : List Entry) (w : Whole) (least : List Ro
   was_settled : (v : Volume) → Contains left.books.tables.volumes v → Contains settled.books.tables.volumes v
   was_settled v i = (filter_from (is_other gone) settled.books.tables.volumes v (subst (λ (vs : List Volume). Contains vs v) (sym volumes_are) i)).0
 
-  was_there : (v : Volume) → Contains settled.books.tables.volumes v → Contains w.books.tables.volumes v
-  was_there v i = subst (λ (vs : List Volume). Contains vs v) (settling_keeps grain w) i
+  pub none_came : NoneCame settled left
+  none_came v i = was_settled v i
 
-  none_came : NoneCame w left
-  none_came v i = was_there v (was_settled v i)
-
-  -- ---- the lanes have the same grains lost
-
-  settled_sound : AreSound settled.books
-  settled_sound = (stands_law_holds.settled grain (2 * w.entries) w (omega (arith, few)) begin.on.reached).stands.sound
-
-  is_left : IsLeft grain w settled None old now p.kept
-  is_left =
-      record {
-        sound = begin.on.reached.stands.sound;
-        left_sound = settled_sound;
-        kept_sound = begin.stands.says.sound;
-        tables = begin.stands.says.tables;
-        some = begin.on.reached.stands.each_lane.some;
-        as_many = refl;
-        were = come.lanes_are;
-        are = are;
-        after = record {
-          count = stays.count;
-          each = λ i e il. record {
-            known_is = (stays.each i e il).known_is;
-            zero = λ x y inside le lt.
-                let below : i < lanes w = subst (λ (n : ℕ). i < n) come.lanes_are.count il in
-                let here_now : i < length now = subst (λ (n : ℕ). i < n) (sym stays.count) il in
-                let t = (lane_has grain settled i (get_or now i e) below settled_sound (are.each i e here_now) (are.counted i e here_now)).told x inside in
-                let given : t.volume.id.0 < w.books.next_volume = all_in_is (λ (z : Volume). z.id.0 < w.books.next_volume) w.books.tables.volumes
-                begin.on.reached.stands.sound.tables.new_volume t.volume (was_there t.volume t.there) in
-                let id = t.id_is in
-                absurd (omega (arith, given, id, le));
-            disks = (stays.each i e il).disks;
-          };
-        };
-        lost = come.lost;
-      }
-
-  abbrev anew_here : Kept
-  anew_here = anew_kept grain entries w least command loop entry old p come few c
-
-  says_now : by_lanes left now ≡ anew_here
-  says_now = says_by grain entries w least command loop entry old p come few c now (λ v g i gl. lost_left_is grain w settled None old now other p.kept is_left v g (was_settled v i) gl)
-
-  says_before : by_lanes left old ≡ anew_here
-  says_before = says_by grain entries w least command loop entry old p come few c old (λ v g i gl. sym (come.lost v g (none_came v i) gl))
-
-  sound_anew : IsSoundKept anew_here
-  sound_anew = (all_behind grain entries w least command loop entry old p come few c).0.says.sound
+  says_now : by_lanes left now ≡ kept_left grain entries w least command loop entry old p come few c other
+  says_now = says_by grain entries w least command loop entry old p come few c other settled (least_by w least (settle w.books)) settled_alone now are none_came
 
   sound_without : IsSoundKept (kept_without gone settled now)
-  sound_without = subst IsSoundKept (sym (kept_is ∙ says_now)) sound_anew
+  sound_without = subst IsSoundKept (sym (kept_is ∙ says_now)) (sound_left grain entries w least command loop entry old p come few c other)
 
-  pub without_all : let image : MetaImage = without gone (meta_of (by_lanes settled now)) in (kept_in image ≡ by_lanes left old) × NoneCame w left × IsSoundImage image
-  without_all =
-      (image_says gone settled now apart ∙ (said (kept_without gone settled now) sound_without ∙ (kept_is ∙ (says_now ∙ sym says_before))), none_came, image_is_sound gone settled now apart sound_without)
+  pub without_all : let image : MetaImage = without gone (meta_of (by_lanes settled now)) in (kept_in image ≡ by_lanes left now) × NoneCame settled left × IsSoundImage image
+  without_all = (image_says gone settled now apart ∙ (said (kept_without gone settled now) sound_without ∙ kept_is), none_came, image_is_sound gone settled now apart sound_without)

@@ -29,7 +29,7 @@ use Rattle.fc_rules.specs.LaneRight.{done_write}
 use Rattle.fc_rules.specs.LaneTold.{LaneOf, LaneTold}
 use Rattle.fc_rules.specs.Spot.{Spot, move_in}
 use Rattle.fc_rules.specs.Steps.{DiskStep, moves_of, step_of_move}
-use Rattle.fc_steps.specs.Asking.{done_of, reply_in, request_of}
+use Rattle.fc_steps.specs.Asking.{done_of, reply_in, request_of, steps_entry}
 use Rattle.fc_steps.specs.StepsEnd.{StepsEnd, torn_in}
 use Rattle.fc_steps.specs.UnderWay.{moving_asked, move_next, next_of, next_unless, own_next, spot_asked, steps_asked}
 use Rattle.fc_steps.specs.declared.ask.Ask.{Ask}
@@ -354,3 +354,17 @@ module _ (grain : GrainSize) (w : Whole) (least : List Row) (place : ℕ) (doing
 
   pub rows_on : (marks : List Mark) → q.kept.rows ≡ marked marks w.rows → q.kept.rows ≡ marked (marks_left (volume_noted s) s.grain marks) (rows_entry (single_lane grain) w.rows entry)
   rows_on marks same = rows_by marks s.stop refl same
+
+-- ---- by what its lane makes of it
+
+pub told_of : (lane after : ℕ) (doing : Doing) (entry : Entry) →
+    entry ≡ steps_entry lane doing.number doing.actor (request_of doing.steps.ask) (done_of doing.steps.ask) doing.before after (take doing.steps.made doing.steps.planned.moves) doing.steps.calls doing.steps.stop →
+    IsEntryOf doing entry
+told_of lane after doing entry e =
+    record {
+      request = ap (λ (z : Entry). z.request) e;
+      reply = ap (λ (z : Entry). z.reply) e;
+      moves = ap (λ (z : Entry). z.moves) e;
+      torn = ap (λ (z : Entry). z.torn) e;
+      no_effects = ap (λ (z : Entry). z.effects) e;
+    }
