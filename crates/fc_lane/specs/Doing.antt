@@ -1,10 +1,11 @@
 -- An entry of a lane that is under way, step by step.
-use Rattle.std.specs.Prelude.{◌≡◌, ℕ, ◌≤◌, ◌<◌, ◌^◌, Some, IsSome, length}
+use Rattle.std.specs.Prelude.{◌≡◌, ℕ, ◌≤◌, ◌<◌, ◌^◌, Some, None, IsSome, length, take}
 use Rattle.fc_base.specs.declared.ids.GrainNo.{GrainNo}
 use Rattle.fc_base.specs.declared.ids.MapId.{MapId}
 use Rattle.fc_base.specs.declared.request.Pick.TheVariants.{Any}
 use Rattle.fc_base.specs.declared.state.Access.TheVariants.{Online}
 use Rattle.fc_entry.specs.Picture.{grain_of_block}
+use Rattle.fc_entry.specs.declared.entry.Entry.{Entry}
 use Rattle.fc_lane.specs.Entering.{HasFollowed, SameBeside}
 use Rattle.fc_lane.specs.Lane.{LaneView, IsLaneOf, of}
 use Rattle.fc_lane.specs.Turns.{CanPick}
@@ -14,9 +15,11 @@ use Rattle.fc_lane.specs.declared.doing.Begun.TheVariants.{Answered, UnderWay}
 use Rattle.fc_lane.specs.declared.doing.Doing.{Doing}
 use Rattle.fc_lane.specs.declared.worker.Worker.{Worker}
 use Rattle.fc_rules.specs.LaneFits.{FitsPart}
+use Rattle.fc_rules.specs.LaneRight.{done_write}
 use Rattle.fc_rules.specs.LaneTold.{LaneOf, LaneTold, lane_access, place_of}
 use Rattle.fc_rules.specs.LaneTurn.{cleaned_slot, copied_slot}
-use Rattle.fc_steps.specs.Asking.{request_of}
+use Rattle.fc_rules.specs.Steps.{HasDoneNothing}
+use Rattle.fc_steps.specs.Asking.{done_of, request_of, steps_entry}
 use Rattle.fc_steps.specs.UnderWay.{AreUnderWay, IsCounted, first_steps, slot_asked}
 use Rattle.fc_steps.specs.declared.ask.Ask.{Ask}
 use Rattle.fc_steps.specs.declared.ask.Ask.TheVariants.{Write, Copy, Clean}
@@ -59,9 +62,11 @@ pub record HasBegun (old : LaneView) (number actor : ℕ) (ask : Ask) (doing : D
   pub steps_are : doing.steps ≡ first_steps ask doing.steps.grain doing.steps.place doing.steps.planned
   pub same : new ≡ record old { entry_room = new.entry_room }
 
--- It was answered at once, and nothing changed; or it began.
+-- It was answered at once, and nothing was done or changed; or it began.
 abbrev pub HasBegunAs : LaneView → ℕ → ℕ → Ask → Begun → LaneView → Type 0
-HasBegunAs old number actor ask (Answered entry) new = HasFollowed old (FitsAsk (of old) ask) number actor (request_of ask) entry new × (new ≡ old)
+HasBegunAs old number actor ask (Answered entry) new =
+    HasFollowed old (FitsAsk (of old) ask) number actor (request_of ask) entry new × (new ≡ old)
+    × HasDoneNothing entry × (done_write entry.request entry.reply ≡ None)
 HasBegunAs old number actor ask (UnderWay doing) new = HasBegun old number actor ask doing new
 
 -- The worker's next work in the lane is this grain of this mapping.
@@ -80,3 +85,9 @@ abbrev pub HasBegunTurn : LaneView → ℕ → ℕ → Worker → Begun → Lane
 HasBegunTurn old number actor worker (Answered entry) new =
     HasFollowed old (λ told. CanPick (of old) (filled_slot worker told.sheet.slots) Any) number actor (turn_of worker old.lane) entry new × (new ≡ old)
 HasBegunTurn old number actor worker (UnderWay doing) new = HasBegunWork old number actor worker doing new
+
+-- The entry of steps that are over, in the lane as it is then.
+abbrev pub entry_over : LaneView → Doing → Entry
+entry_over v doing =
+    steps_entry v.lane doing.number doing.actor (request_of doing.steps.ask) (done_of doing.steps.ask) doing.before v.grains.faults
+    (take doing.steps.made doing.steps.planned.moves) doing.steps.calls doing.steps.stop

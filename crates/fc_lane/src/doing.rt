@@ -11,7 +11,7 @@ ghost use Rattle.fc_chain.specs.Planning.{CanPlan, planned_moves, volume_count};
 ghost use Rattle.fc_entry.specs.Picture.{grain_of_block};
 ghost use Rattle.fc_follow.specs.Following.{Followed};
 ghost use Rattle.fc_grains.specs.Volumes.{stored};
-ghost use Rattle.fc_lane.specs.Doing.{FitsAsk, HasBegun, HasBegunAs, HasBegunTurn, IsNextWork, IsUnderWay};
+ghost use Rattle.fc_lane.specs.Doing.{FitsAsk, HasBegun, HasBegunAs, HasBegunTurn, IsNextWork, IsUnderWay, entry_over};
 ghost use Rattle.fc_lane.specs.Entering.{HasEntered, HasFollowed};
 ghost use Rattle.fc_lane.specs.Lane.{IsFollowing, IsLaneOf, IsReady, LaneView, of};
 ghost use Rattle.fc_lane.specs.Turns.{CanPick};
@@ -192,8 +192,10 @@ impl<D: Mdisk> Lane<D> {
     fn end_steps(&mut self, alloc: Global, doing: Doing) -> Entry
         requires way { (lane : LaneView) × IsUnderWay lane doing self.old }
         requires over { next_of doing.steps ≡ Over }
-        ensures { (lane : LaneView) → IsUnderWay lane doing self.old →
+        ensures entered { (lane : LaneView) → IsUnderWay lane doing self.old →
             HasEntered lane (FitsAsk (of lane) doing.steps.ask) doing.number doing.actor (request_of doing.steps.ask) result self.new }
+        ensures told { result ≡ entry_over self.old doing }
+        ensures grains { self.new.grains ≡ self.old.grains }
     {
         let Doing {
             number,
@@ -214,8 +216,10 @@ impl<D: Mdisk> Lane<D> {
     pub fn finish(&mut self, alloc: Global, doing: Doing) -> Entry
         requires way { (lane : LaneView) × IsUnderWay lane doing self.old }
         requires over { next_of doing.steps ≡ Over }
-        ensures { (lane : LaneView) → IsUnderWay lane doing self.old →
+        ensures followed { (lane : LaneView) → IsUnderWay lane doing self.old →
             HasFollowed lane (FitsAsk (of lane) doing.steps.ask) doing.number doing.actor (request_of doing.steps.ask) result self.new }
+        ensures told { result ≡ entry_over self.old doing }
+        ensures grains { self.new.grains ≡ self.old.grains }
     {
         let entry = self.end_steps(alloc, doing);
         self.note(&entry);

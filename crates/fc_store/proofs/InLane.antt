@@ -1,7 +1,9 @@
 -- One entry in the lane of its grain, which was made ready for it.
 use Rattle.std.specs.Prelude.{IfOk, IsSome}
-use Rattle.std.proofs.Common.{◌≡◌, ℕ, ◌+◌, ◌-◌, ◌*◌, ◌%◌, ◌^◌, ◌<◌, Bool, Contains, Some, [], ◌∷◌, ◌++◌, List, length, slice_index_or, slice_set, Result, OnOk, OnErr, IfErr, refl, sym, ◌∙◌, ap, subst}
+use Rattle.std.proofs.Common.{◌≡◌, ℕ, ◌+◌, ◌-◌, ◌*◌, ◌%◌, ◌^◌, ◌<◌, Bool, Contains, Some, [], ◌∷◌, ◌++◌, List, length, map, slice_index_or, slice_set, Result, OnOk, OnErr, IfErr, refl, sym, ◌∙◌, ap, subst}
+use Rattle.std.proofs.lemmas.List.{get_or-map, map-set, set-get_or}
 use Rattle.fc_base.specs.Grain.{grain_blocks}
+use Rattle.fc_base.specs.Pools.{Pool}
 use Rattle.fc_base.specs.declared.ids.GrainNo.{GrainNo}
 use Rattle.fc_base.specs.declared.ids.VolId.{VolId}
 use Rattle.fc_base.specs.declared.request.Request.{Request}
@@ -13,6 +15,7 @@ use Rattle.fc_entry.specs.declared.entry.Entry.{Entry}
 use Rattle.fc_entry.specs.declared.stop.Stop.{Stop}
 use Rattle.fc_entry.specs.declared.stop.Stop.TheVariants.{NoMemory}
 use Rattle.fc_follow.specs.Following.{Followed}
+use Rattle.fc_grains.specs.Grains.{GrainsState}
 use Rattle.fc_lane.specs.Entering.{HasFollowed}
 use Rattle.fc_lane.specs.Lane.{LaneView, IsFollowing, IsReady, of}
 use Rattle.fc_lanes.specs.Asking.{part_of, request_of}
@@ -36,13 +39,22 @@ use Rattle.fc_stands.proofs.Ranging.{disks_stay, is_part_of}
 use Rattle.fc_stands.proofs.Since.{GoesBy, one_goes_by}
 use Rattle.fc_stands.proofs.Turning.{IsInGrain, is_in_grain}
 use Rattle.fc_stands.proofs.Turns.{turn_logged, turn_says}
-use Rattle.fc_store.specs.Ready.{IsReadyAt, IsRoomier}
+use Rattle.fc_store.specs.Ready.{IsReadyAt, IsRoomier, disks_of}
+
+-- Lanes that hold the same have the same disks.
+disks_again : (ls : List LaneView) → map disks_of ls ≡ map (λ (g : GrainsState). g.disks) (map (λ (v : LaneView). v.grains) ls)
+disks_again [] = refl
+disks_again (v ∷ vs) = ap (λ (ps : List Pool). v.grains.disks ∷ ps) (disks_again vs)
+
+pub disks_each : (old new : List LaneView) → map (λ (v : LaneView). v.grains) new ≡ map (λ (v : LaneView). v.grains) old → map disks_of new ≡ map disks_of old
+disks_each old new same = disks_again new ∙ (ap (λ (gs : List GrainsState). map (λ (g : GrainsState). g.disks) gs) same ∙ sym (disks_again old))
 
 -- The lane at its place, inside a store that has room for the entry, and the store before room was made.
 pub record IsAtHand (s inside : StoreView) (g place : ℕ) (lane : LaneView) : Type 0 where
   pub control : inside.control ≡ s.control
   pub stands : (w : Whole) → StandsFor s w → StandsFor inside w
   pub disks : disks_in inside.lanes ≡ disks_in s.lanes
+  pub each : map disks_of inside.lanes ≡ map disks_of s.lanes
   pub quiet : (entries : List Entry) → QuietBy entries s → QuietBy entries inside
   pub at : place ≡ g % length inside.lanes
   pub within : place < length inside.lanes
@@ -57,6 +69,7 @@ at_hand {s} {roomy} {inside} {g} {place} {lane} kept at seen is =
       control = kept.control;
       stands = kept.stands;
       disks = kept.disks;
+      each = disks_each s.lanes roomy.lanes kept.grains;
       quiet = kept.quiet;
       at = at.at;
       within = at.inside;
@@ -71,6 +84,12 @@ module _ {s inside : StoreView} {g place : ℕ} {lane new : LaneView} {Fits : La
     (here : IsAtHand s inside g place lane) (has : HasFollowed lane Fits number actor request entry new) where
   pub disks_left : disks_in (slice_set inside.lanes place new) ≡ disks_in s.lanes
   disks_left = disks_stay inside.lanes place lane new here.within here.is has.same.disks ∙ here.disks
+
+  pub each_left : map disks_of (slice_set inside.lanes place new) ≡ map disks_of s.lanes
+  each_left =
+      map-set disks_of inside.lanes place new
+      ∙ (ap (λ (p : Pool). slice_set (map disks_of inside.lanes) place p) (has.same.disks ∙ (ap disks_of here.is ∙ sym (get_or-map disks_of inside.lanes place lane (disks_of lane) here.within)))
+      ∙ (set-get_or (map disks_of inside.lanes) place (disks_of lane) ∙ here.each))
 
   pub still_quiet : AreQuiet inside.lanes → AreQuiet (slice_set inside.lanes place new)
   still_quiet quiet = one_keeps inside.lanes place lane new here.within here.is has.quiet quiet

@@ -1,7 +1,7 @@
 -- A lane in which room was made for an entry.
-use Rattle.std.proofs.Common.{◌≡◌, ◌≢◌, ℕ, ◌%◌, ◌<◌, ◌≤◌, List, length, slice_index_or, slice_set, Err, refl, sym, ◌∙◌, ap, subst, arith, ◌⊎◌, inl, inr}
+use Rattle.std.proofs.Common.{◌≡◌, ◌≢◌, ℕ, ◌%◌, ◌<◌, ◌≤◌, List, length, map, slice_index_or, slice_set, Err, refl, sym, ◌∙◌, ap, subst, arith, ◌⊎◌, inl, inr}
 use Rattle.std.proofs.lemmas.Bool.{cases_eq}
-use Rattle.std.proofs.lemmas.List.{get_or-set_same, get_or-set_other, length-set}
+use Rattle.std.proofs.lemmas.List.{get_or-map, get_or-set_same, get_or-set_other, length-set, map-set, set-get_or}
 use Rattle.std.proofs.lemmas.List.Elements.{All-set}
 use Rattle.fc_base.specs.declared.request.Reply.{Reply}
 use Rattle.fc_base.specs.declared.request.Request.{Request}
@@ -10,6 +10,7 @@ use Rattle.fc_entry.specs.HistoryState.{HistoryState}
 use Rattle.fc_entry.specs.declared.entry.Entry.{Entry}
 use Rattle.fc_entry.specs.declared.stop.Stop.{Stop}
 use Rattle.fc_entry.specs.declared.stop.Stop.TheVariants.{LogFull, NoMemory}
+use Rattle.fc_grains.specs.Grains.{GrainsState}
 use Rattle.fc_lane.specs.Lane.{LaneView, IsReady, KeepsQuiet}
 use Rattle.fc_legal.specs.Added.{IsTold, StaysUp}
 use Rattle.fc_legal.specs.Whole.{Whole}
@@ -62,6 +63,11 @@ module _ (s : StoreView) (v : Whole) (g place : ℕ) (old new : LaneView)
     control = refl;
     stands = roomier_stands;
     disks = disks_stay s.lanes place old new there is (ap (λ (x : LaneView). x.grains.disks) made);
+    grains =
+        let held : LaneView → GrainsState = λ v. v.grains in
+        map-set held s.lanes place new
+        ∙ (ap (λ (x : GrainsState). slice_set (map held s.lanes) place x) (ap held made ∙ (ap held is ∙ sym (get_or-map held s.lanes place old (held old) there)))
+        ∙ set-get_or (map held s.lanes) place (held old));
     quiet = roomier_quiet;
   }
 
@@ -85,7 +91,7 @@ module _ {s inside : StoreView} {v : Whole} {old new : LaneView} (g many : ℕ) 
 
 -- Nothing was done.
 pub as_roomy : (s : StoreView) → IsRoomier s s
-as_roomy s = record { control = refl; stands = λ w stands. stands; disks = refl; quiet = λ entries quiet. quiet }
+as_roomy s = record { control = refl; stands = λ w stands. stands; disks = refl; grains = refl; quiet = λ entries quiet. quiet }
 
 -- No entry was made.
 pub not_logged : (A : Type 0) (stop : Stop) (Says : A → Reply → Type 0) (Stands : Whole → Type 0) (grain : GrainSize) (w : Whole) (request : Request) (history : HistoryState) →

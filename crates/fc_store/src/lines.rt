@@ -20,6 +20,7 @@ ghost use Rattle.fc_lanes.specs.Asking.{command_of, part_of};
 ghost use Rattle.fc_lanes.specs.Dealing.{disks_in};
 ghost use Rattle.fc_stands.specs.Store.{StandsFor};
 ghost use Rattle.fc_store.specs.Answering.{AnswersCommand};
+ghost use Rattle.fc_store.specs.Ready.{disks_of};
 
 use crate::store::Store;
 use fc_apart::apart::refused_entry;
@@ -74,6 +75,7 @@ impl<D: Mdisk> Store<D> {
             Logged result anything (StandsFor self.new) self.old.control.grain w (part_of self.old.control.grain access volume block count grain) history.old history.new }
         ensures control { self.new.control ≡ self.old.control }
         ensures disks { disks_in self.new.lanes ≡ disks_in self.old.lanes }
+        ensures each { map disks_of self.new.lanes ≡ map disks_of self.old.lanes }
         ensures quiet { QuietBy history.old.entries self.old → StaysUp result (QuietBy history.new.entries self.new) }
         ensures limit { length history.new.entries ≤ MAX_ENTRIES }
     {

@@ -4,7 +4,7 @@ ghost use Rattle.std.specs.Prelude.{◌≡◌, ◌≢◌, ◌<◌, ◌^◌, ◌%
 ghost use Rattle.fc_base.specs.declared.request.WritePart.{WritePart};
 ghost use Rattle.fc_entry.specs.Picture.{grain_of_block};
 ghost use Rattle.fc_follow.specs.Following.{Followed};
-ghost use Rattle.fc_lane.specs.Doing.{FitsAsk, HasBegun, HasBegunAs, IsUnderWay};
+ghost use Rattle.fc_lane.specs.Doing.{FitsAsk, HasBegun, HasBegunAs, IsUnderWay, entry_over};
 ghost use Rattle.fc_lane.specs.Entering.{HasFollowed};
 ghost use Rattle.fc_lane.specs.Lane.{IsFollowing, IsReady, LaneView, of};
 ghost use Rattle.fc_lane.specs.Workers.{ask_of};
@@ -90,6 +90,8 @@ impl<D: Mdisk> Store<D> {
         requires over { next_of doing.steps ≡ Over }
         ensures entry { (lane : LaneView) → IsUnderWay lane doing (lane_in self.old place) →
             HasFollowed lane (FitsAsk (of lane) doing.steps.ask) doing.number doing.actor (request_of doing.steps.ask) result (lane_in self.new place) }
+        ensures told { result ≡ entry_over (lane_in self.old place) doing }
+        ensures grains { (lane_in self.new place).grains ≡ (lane_in self.old place).grains }
         ensures others { IsInLane place self.old self.new }
     {
         self.lanes[place].finish(self.alloc, doing)

@@ -2,6 +2,7 @@ use Rattle.std.proofs.Common.{◌/◌, ℕ, refl, ap, sym, subst, ◌∙◌}
 use Rattle.fc_base.specs.Grain.{grain_blocks}
 use Rattle.fc_base.specs.declared.request.Reply.TheVariants.{MediumError}
 use Rattle.fc_base.specs.declared.request.Request.TheVariants.{Write}
+use Rattle.fc_entry.specs.declared.entry.Entry.{Entry}
 use Rattle.fc_lane.specs.Lane.{LaneView, of}
 use Rattle.fc_lane.proofs.InSteps.{write_begins}
 use Rattle.fc_lane.proofs.Followed.{untouched_followed}
@@ -9,6 +10,7 @@ use Rattle.fc_lane.proofs.WriteLane.{IsOnline, IsWritable, TellsWritable, is_wri
 use Rattle.fc_lane.proofs.lane.Lane.begin_online.Goals as goal
 use Rattle.fc_lane.proofs.lane.Lane.begin_online.Goals.{After-can_write}
 use Rattle.fc_rules.specs.LaneFits.{FitsPart}
+use Rattle.fc_rules.specs.LaneRight.{done_write}
 
 pub can_write-requires : goal.can_write-requires
 can_write-requires g c =
@@ -26,6 +28,8 @@ returns-then-not-can_write g c =
           (lost_entered v c.args.part n (n / c.self.inside.lanes) (record { can = c.requires.can; online = c.requires.online }) number (ap (λ (z : LaneView). n / z.lanes) c.self.view_is)
           c.can_write.result c.args.number c.args.actor c.untouched.result tells c.if-not-can_write.true c.untouched.ensures) refl c.untouched.ensures,
       refl,
+      record { moves = ap (λ (e : Entry). e.moves) c.untouched.ensures; calls = ap (λ (e : Entry). e.calls) c.untouched.ensures; untorn = ap (λ (e : Entry). e.torn) c.untouched.ensures },
+      ap (λ (e : Entry). done_write e.request e.reply) c.untouched.ensures,
     )
 
 pub begin_steps-requires-clause-fit : goal.begin_steps-requires-clause-fit

@@ -27,4 +27,4 @@ returns g c lane m grain u is next =
     let turn = c.turn_of-turn.ensures ∙ (ap (λ (z : LaneView). turn_of w z.lane) c.self.view_is ∙ ap (λ (n : ℕ). turn_of w n) u.beside.lane) in
     let ended = c.end_steps-ended in
     entry_followed lane ended.new.self c.note.new.self (λ told. CanPick (of lane) (filled_slot w told.sheet.slots) Any) d.number d.actor (turn_of w lane.lane) c.turned-entry.result
-    (turn_entered w lane ended.new.self d.steps.ask d.number d.actor m grain ended.result c.turned-entry.result inside next is (ended.ensures lane u) (c.turned-entry.ensures ∙ ap (λ (q : Request). turned q ended.result) turn)) c.note.ensures
+    (turn_entered w lane ended.new.self d.steps.ask d.number d.actor m grain ended.result c.turned-entry.result inside next is (ended.ensures.entered lane u) (c.turned-entry.ensures ∙ ap (λ (q : Request). turned q ended.result) turn)) c.note.ensures

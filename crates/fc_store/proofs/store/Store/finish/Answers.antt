@@ -1,6 +1,6 @@
 -- The lane at the place ends the entry.
-use Rattle.std.proofs.Common.{length, ap, arith}
-use Rattle.fc_lane.specs.Doing.{FitsAsk, IsUnderWay}
+use Rattle.std.proofs.Common.{◌≡◌, length, ap, arith}
+use Rattle.fc_lane.specs.Doing.{FitsAsk, IsUnderWay, entry_over}
 use Rattle.fc_lane.specs.Entering.{HasFollowed}
 use Rattle.fc_lane.specs.Lane.{LaneView, of}
 use Rattle.fc_stands.specs.Store.{StoreView}
@@ -20,7 +20,15 @@ returns-clause-entry g c =
     at_place
     (λ v w. (lane : LaneView) → IsUnderWay lane c.args.doing v →
     HasFollowed lane (FitsAsk (of lane) c.args.doing.steps.ask) c.args.doing.number c.args.doing.actor (request_of c.args.doing.steps.ask) c.finish.result w)
-    c.finish.new.self c.self.view_is c.requires.there c.index_mut.ensures.value c.finish.ensures
+    c.finish.new.self c.self.view_is c.requires.there c.index_mut.ensures.value c.finish.ensures.followed
+
+pub returns-clause-told : goal.returns-clause-told
+returns-clause-told g c =
+    at_place (λ v w. c.finish.result ≡ entry_over v c.args.doing) c.finish.new.self c.self.view_is c.requires.there c.index_mut.ensures.value c.finish.ensures.told
+
+pub returns-clause-grains : goal.returns-clause-grains
+returns-clause-grains g c =
+    at_place (λ v w. w.grains ≡ v.grains) c.finish.new.self c.self.view_is c.requires.there c.index_mut.ensures.value c.finish.ensures.grains
 
 pub returns-clause-others : goal.returns-clause-others
 returns-clause-others g c = in_lane c.finish.new.self c.self.view_is c.requires.there

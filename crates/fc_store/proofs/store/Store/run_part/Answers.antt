@@ -5,7 +5,7 @@ use Rattle.fc_stands.specs.Logged.{anything}
 use Rattle.fc_stands.specs.Quiet.{QuietBy}
 use Rattle.fc_stands.specs.Store.{StandsFor, StoreView}
 use Rattle.fc_stands.proofs.Quieting.{quiet_logged}
-use Rattle.fc_store.proofs.InLane.{at_hand, disks_left, goes_by, part_can, part_here, part_logged, still_quiet}
+use Rattle.fc_store.proofs.InLane.{at_hand, disks_each, disks_left, each_left, goes_by, part_can, part_here, part_logged, still_quiet}
 use Rattle.fc_store.proofs.ReadyLane.{not_logged, stays_up}
 use Rattle.fc_store.proofs.store.Store.run_part.Goals as goal
 
@@ -14,6 +14,9 @@ returns-in-Err-clause-answered g c = λ w told.
     not_logged (Unit {0}) c.in-Err.stop anything (StandsFor c.ready_lane.new.self) c.args.self.now.control.grain w
     (part_of c.args.self.now.control.grain c.args.access c.args.volume c.args.block c.args.count c.args.grain) c.args.history.now
     c.in-Err.ensures.stopped c.requires.room (c.ready_lane.ensures.kept.stands w told.0, told.1)
+
+pub returns-in-Err-clause-each : goal.returns-in-Err-clause-each
+returns-in-Err-clause-each g c = disks_each c.args.self.now.lanes c.ready_lane.new.self.lanes c.ready_lane.ensures.kept.grains
 
 pub returns-in-Err-clause-quiet : goal.returns-in-Err-clause-quiet
 returns-in-Err-clause-quiet g c = λ quiet.
@@ -43,6 +46,9 @@ returns-clause-answered g c = λ w told.
 
 pub returns-clause-disks : goal.returns-clause-disks
 returns-clause-disks g c = disks_left (at_hand c.ready_lane.ensures.kept c.in-Ok.ensures.ready c.self.view_is c.index_mut-lane.ensures.value) c.access_lane-entry.ensures
+
+pub returns-clause-each : goal.returns-clause-each
+returns-clause-each g c = each_left (at_hand c.ready_lane.ensures.kept c.in-Ok.ensures.ready c.self.view_is c.index_mut-lane.ensures.value) c.access_lane-entry.ensures
 
 pub returns-clause-quiet : goal.returns-clause-quiet
 returns-clause-quiet g c = λ quiet.

@@ -1,0 +1,263 @@
+-- A move that is next of an entry under way and copies nothing: its record is put, and then it is made.
+use Rattle.std.proofs.Common.{◌≡◌, ℕ, ◌<◌, ◌≤◌, true, Some, None, List, [], ◌∷◌, length, refl, sym, ap, subst, ◌∙◌, inl, inr}
+use Rattle.std.specs.Prelude.{Err, Result}
+use Rattle.std.proofs.lemmas.Bool.{cases_Bool}
+use Rattle.std.proofs.lemmas.List.{get_or_default}
+use Rattle.fc_agenda.specs.Goes.{stays}
+use Rattle.fc_base.specs.declared.request.Move.{Move}
+use Rattle.fc_base.specs.declared.size.GrainSize.{GrainSize}
+use Rattle.fc_changed.specs.Row.{Row}
+use Rattle.fc_entry.specs.HistoryState.{HistoryState}
+use Rattle.fc_entry.specs.Picture.{Content, Lost, content_at, is_lost}
+use Rattle.fc_grains.proofs.Unreadable.{unreadable_away}
+use Rattle.fc_grains.specs.Grains.{GrainsState}
+use Rattle.fc_grains.specs.Volumes.{VolumeGrains, is_there, stored, volume_of}
+use Rattle.fc_held.proofs.Holding.{all_agree}
+use Rattle.fc_held.specs.Held.{HoldAllOf, MatchAll}
+use Rattle.fc_image.specs.Records.{after_record}
+use Rattle.fc_image.specs.declared.image.MetaImage.{MetaImage}
+use Rattle.fc_image.specs.declared.record.MetaRecord.{MetaRecord}
+use Rattle.fc_kept.specs.Disks.{NamedDisk}
+use Rattle.fc_kept.specs.Images.{kept_in}
+use Rattle.fc_kept.specs.Kept.{Kept, kept_after}
+use Rattle.fc_kept.specs.Prefix.{AreStepsOf}
+use Rattle.fc_kept.specs.Sound.{IsSoundImage}
+use Rattle.fc_lane.specs.Lane.{LaneView}
+use Rattle.fc_lane.specs.declared.doing.Doing.{Doing}
+use Rattle.fc_legal.specs.Agenda.{Asks}
+use Rattle.fc_legal.specs.Whole.{Whole}
+use Rattle.fc_marks.specs.declared.error.NotedStop.{NotedStop}
+use Rattle.fc_marks.specs.declared.error.NotedStop.TheVariants.{LogFull}
+use Rattle.fc_meta.specs.Answers.{LeavesEither, found_with}
+use Rattle.fc_meta.specs.States.{IsResting, found}
+use Rattle.fc_meta.specs.declared.meta.Meta.{Meta}
+use Rattle.fc_metadisk.specs.Disk.{LeavesOnly}
+use Rattle.fc_noted.proofs.Data.{doing_inside, hand_none, have_still, matches_none, same_ask, since_then}
+use Rattle.fc_noted.proofs.Fitting.{IsFit, alone_fits}
+use Rattle.fc_noted.proofs.GoingAlong.{matches_along}
+use Rattle.fc_noted.proofs.InHand.{alone_recovered, recovered_of, stands_recovered}
+use Rattle.fc_noted.proofs.Putting.{hold_both, put_keeps, put_leaves, put_says, put_stops, same_stop}
+use Rattle.fc_noted.specs.Making.{WayMade, done}
+use Rattle.fc_noted.specs.Noted.{IsDoing}
+use Rattle.fc_noted.specs.Stopping.{HasStopped, HoldStill, HoldsTheSame, LeavesRecoverable, MayBeRecovered}
+use Rattle.fc_noted.specs.declared.noted.Noted.{Noted}
+use Rattle.fc_noted.specs.declared.noted.UnderWay.{UnderWay}
+use Rattle.fc_parts.specs.Law.{IsInVolume}
+use Rattle.fc_script.specs.Asking.{Fits}
+use Rattle.fc_script.specs.Script.{agenda_of}
+use Rattle.fc_stands.specs.Store.{StoreView}
+use Rattle.fc_steps.specs.Asking.{request_of}
+use Rattle.fc_steps.specs.Moving.{SameLane}
+use Rattle.fc_steps.specs.UnderWay.{next_of}
+use Rattle.fc_steps.specs.declared.ask.Ask.{Ask}
+use Rattle.fc_steps.specs.declared.body.StepEnd.{StepEnd}
+use Rattle.fc_steps.specs.declared.stepping.Next.TheVariants.{Move as NextMove}
+use Rattle.fc_store.specs.Stepping.{IsInLane, IsStepOf, lane_in, no_lane}
+use Rattle.law_agreeing.specs.Agreeing.{AllAgree}
+use Rattle.law_crash.specs.Doing.{noted}
+use Rattle.law_noted.proofs.DataInHand.{same_new, same_old}
+use Rattle.law_noted.proofs.HandMoved.{moved_alone}
+use Rattle.law_noted.proofs.HandOn.{alone_found, found as hand_found}
+use Rattle.law_noted.specs.Advancing.{uncopied}
+use Rattle.law_noted.specs.DataSteps.{GoAlong, IsInHand, copies_nothing}
+
+-- ---- lanes that hold still
+
+lost_is : (x : Content) → is_lost x ≡ true → x ≡ Lost
+lost_is Lost e = refl
+lost_is x e = absurd cc
+
+-- what a volume holds, where it is there in both or in neither
+stored_still : (xs ys : List VolumeGrains) (v y : ℕ) → is_there ys v ≡ is_there xs v → (is_there xs v ≡ true → HoldsTheSame (volume_of xs v) (volume_of ys v)) → stored ys v y ≡ stored xs v y
+stored_still xs ys v y there holds =
+    elim (cases_Bool (is_there xs v)) [
+      | inl t ↦ ap (λ (cs : List Content). content_at cs y) (holds t).1
+      | inr f ↦ lost_is (stored ys v y) (unreadable_away ys v y (there ∙ f)) ∙ sym (lost_is (stored xs v y) (unreadable_away xs v y f))
+    ]
+
+-- disks that go along with a lane that holds still match what it holds by what metadata said before, too
+along_still : (grain : GrainSize) (w : Whole) (place : ℕ) (k k' : Kept) (old new : GrainsState) (ds : List (List NamedDisk)) → GoAlong grain w place k k' old new ds ds →
+    ((v y : ℕ) → stored new.volumes v y ≡ stored old.volumes v y) → GoAlong grain w place k k old new ds ds
+along_still grain w place k k' old new ds a still =
+    record {
+      count = a.count;
+      lanes_are = a.lanes_are;
+      same = a.same;
+      kinds = a.kinds;
+      sizes = a.sizes;
+      pooled = a.pooled;
+      aside = a.aside;
+      once = a.once;
+      here = λ v y whole. inl (whole, refl, still v y);
+      others = λ i g il ne v y whole. inl (whole, refl, refl);
+    }
+
+module _ {C D : Type 0} (seen : D → List ℕ) (may_leave : D → List ℕ → Type 0) (moment : D → ℕ) (left_since : D → ℕ → List ℕ → Type 0) (counts_now : (disk : D) (t : ℕ) (c : List ℕ) → t ≤ moment disk → may_leave disk c → left_since disk t c)
+    (n : Noted C D) (way : UnderWay) (m : Move) (none : way.due ≡ None) (live : n.live ≡ true) (next : next_of way.doing.steps ≡ NextMove m)
+    (copies : copies_nothing (lane_in n.store way.place) way.doing.steps.place m ≡ true)
+    (meta : Meta D) (run : LeavesOnly moment left_since n.meta.disk meta.disk (LeavesEither (found seen n.meta) (found_with (found seen n.meta) (uncopied m ∷ [])))) where
+  abbrev old : Noted C D
+  old = record n { under_way = Some way }
+
+  abbrev x : MetaRecord
+  x = uncopied m
+
+  module _ (history : HistoryState) (w : Whole) (least : List Row) (d : IsDoing seen may_leave (record n { under_way = Some way }) way history w least) where
+    abbrev grain : GrainSize
+    grain = d.begun.control.grain
+
+    abbrev begun : LaneView
+    begun = lane_in d.begun way.place
+
+    abbrev now : LaneView
+    now = lane_in n.store way.place
+
+    hand : IsInHand d.begun.control.grain w least way.place way.doing (lane_in d.begun way.place) (lane_in n.store way.place) d.steps d.before None d.point
+    hand = hand_none seen may_leave old way history w least d none
+
+    fit : IsFit d.point.kept (uncopied m)
+    fit = alone_fits grain w least way.place way.doing begun now d.steps d.before d.point hand m next copies
+
+    both : IsSoundImage (after_record d.keeps.image (uncopied m)) × (kept_in (after_record d.keeps.image (uncopied m)) ≡ kept_after d.point.kept (uncopied m))
+    both = put_says d.keeps.image d.point.kept x d.keeps.sound d.keeps.kept fit
+
+    same_grain : n.store.control.grain ≡ d.begun.control.grain
+    same_grain = ap (λ (s : StoreView). s.control.grain) d.since
+
+    abbrev Recovers : List LaneView → MetaImage → Type 0
+    Recovers lanes i = MayBeRecovered n.store.control.grain n.script n.named lanes w least i
+
+    by_grain : (lanes : List LaneView) (i : MetaImage) → MayBeRecovered d.begun.control.grain n.script n.named lanes w least i → MayBeRecovered n.store.control.grain n.script n.named lanes w least i
+    by_grain lanes i r = subst (λ (g : GrainSize). MayBeRecovered g n.script n.named lanes w least i) (sym same_grain) r
+
+    without : MayBeRecovered n.store.control.grain n.script n.named n.store.lanes w least d.keeps.image
+    without = by_grain n.store.lanes d.keeps.image (stands_recovered seen may_leave old way history w least d)
+
+    with_it : MayBeRecovered n.store.control.grain n.script n.named n.store.lanes w least (after_record d.keeps.image (uncopied m))
+    with_it = by_grain n.store.lanes (after_record d.keeps.image x) (alone_recovered seen may_leave old way history w least d none m (after_record d.keeps.image x) next copies both.0 both.1)
+
+    -- ---- an error of the disk of metadata
+
+    alone_stops : HasStopped may_leave old (record n { meta = meta }) w least
+    alone_stops = put_stops seen may_leave moment left_since counts_now old (record n { meta = meta }) w least d.keeps.image x d.keeps.says run d.keeps.volumes without with_it
+
+    failed_leaves : LeavesOnly moment left_since n.meta.disk meta.disk (LeavesRecoverable old (record n { meta = meta }) w least)
+    failed_leaves =
+        put_leaves seen may_leave moment left_since counts_now old (record n { meta = meta }) w least d.keeps.image x d.keeps.says run (hold_both n.store n.store n.script n.named w least d.keeps.image x refl without with_it)
+
+    -- ---- the move is made
+
+    module _ (end : StepEnd) (doing : Doing) (store : StoreView) (step : IsStepOf way.doing (lane_in n.store way.place) end doing (lane_in store way.place)) (is : IsInLane way.place n.store store) where
+      abbrev then : LaneView
+      then = lane_in store way.place
+
+      moved : IsInHand d.begun.control.grain w least way.place doing (lane_in d.begun way.place) (lane_in store way.place) d.steps d.before None (noted (uncopied m) d.point)
+          × GoAlong d.begun.control.grain w way.place d.point.kept (kept_after d.point.kept (uncopied m)) (lane_in n.store way.place).grains (lane_in store way.place).grains d.point.disks d.point.disks
+      moved =
+          moved_alone grain w least way.place way.doing begun now d.steps d.before d.point m end doing then hand next copies (record { way = step.way; after = step.after; moved = step.moved; wrote = step.wrote })
+
+      ask_is : doing.steps.ask ≡ way.doing.steps.ask
+      ask_is = ap (λ (z : Doing). z.steps.ask) step.after ∙ same_ask (next_of way.doing.steps) end way.doing.steps
+
+      stay_old : SameLane (lane_in d.begun way.place).grains (lane_in n.store way.place).grains
+      stay_old = same_old grain w least way.place way.doing begun now d.steps d.before d.point hand
+
+      stay_new : SameLane (lane_in d.begun way.place).grains (lane_in store way.place).grains
+      stay_new = same_new grain w least way.place way.doing begun now d.steps d.before d.point hand doing then moved.0.under ask_is
+
+      inside : way.place < length n.store.lanes
+      inside = doing_inside seen may_leave old way history w least d none
+
+      matches_by : (k : Kept) → GoAlong d.begun.control.grain w way.place d.point.kept k (lane_in n.store way.place).grains (lane_in store way.place).grains d.point.disks d.point.disks →
+          MatchAll d.begun.control.grain n.named k store.lanes d.point.disks
+      matches_by k along =
+          subst (λ (ls : List LaneView). MatchAll grain n.named k ls d.point.disks) (sym (ap (λ (s : StoreView). s.lanes) is))
+          (matches_along grain w way.place n.named d.point.kept k n.store.lanes now then d.point.disks d.point.disks (λ e. get_or_default n.store.lanes way.place e no_lane inside) along
+          (stay_new.disks ∙ sym stay_old.disks) (matches_none seen may_leave old way history w least d none))
+
+      -- while it is written the lanes may hold what they do behind the move, where that is still so
+      still_agree : HoldStill n.store.lanes store.lanes → (back : List (List NamedDisk)) → HoldAllOf n.named store.lanes back → AllAgree d.begun.control.grain d.point.kept d.point.disks back
+      still_agree still back hold =
+          let stored_same : (v y : ℕ) → stored then.grains.volumes v y ≡ stored now.grains.volumes v y =
+          λ v y. stored_still now.grains.volumes then.grains.volumes v y (stay_new.there v ∙ sym (stay_old.there v)) (λ there. (still way.place v no_lane there).1) in
+          let along : GoAlong grain w way.place d.point.kept d.point.kept now.grains then.grains d.point.disks d.point.disks = along_still grain w way.place d.point.kept (kept_after d.point.kept x) now.grains then.grains d.point.disks moved.1 stored_same in
+          all_agree grain n.named d.point.kept store.lanes d.point.disks back no_lane (matches_by d.point.kept along) hold
+
+      still_without : HoldStill n.store.lanes store.lanes → MayBeRecovered n.store.control.grain n.script n.named store.lanes w least d.keeps.image
+      still_without still =
+          by_grain store.lanes d.keeps.image
+          (recovered_of grain n.script n.named store.lanes w least (request_of way.doing.steps.ask) d.point.kept d.keeps.image d.asked d.keeps.sound d.keeps.kept
+          (λ back hold. hand_found grain w least way.place way.doing begun now d.steps d.before None d.point back hand (still_agree still back hold)))
+
+      still_with : HoldStill n.store.lanes store.lanes → MayBeRecovered n.store.control.grain n.script n.named store.lanes w least (after_record d.keeps.image (uncopied m))
+      still_with still =
+          by_grain store.lanes (after_record d.keeps.image x)
+          (recovered_of grain n.script n.named store.lanes w least (request_of way.doing.steps.ask) (kept_after d.point.kept x) (after_record d.keeps.image x) d.asked both.0 both.1
+          (λ back hold. alone_found grain w least way.place way.doing begun now d.steps d.before d.point hand m back next copies (still_agree still back hold)))
+
+      abbrev way_new : UnderWay
+      way_new = record { place = way.place; doing = doing; due = None }
+
+      abbrev new : Noted C D
+      new = record n { store = store; meta = meta; under_way = Some (record { place = way.place; doing = doing; due = None }) }
+
+      alone_leaves : LeavesOnly moment left_since n.meta.disk meta.disk (LeavesRecoverable old new w least)
+      alone_leaves =
+          put_leaves seen may_leave moment left_since counts_now old new w least d.keeps.image x d.keeps.says run
+          (λ lanes may. elim may [
+            | inl e ↦ subst (λ (ls : List LaneView). Recovers ls d.keeps.image × Recovers ls (after_record d.keeps.image x)) (sym e) (without, with_it)
+            | inr e ↦ subst (λ (ls : List LaneView). Recovers ls d.keeps.image × Recovers ls (after_record d.keeps.image x)) (sym e.0) (still_without e.1, still_with e.1)
+          ])
+
+      alone_doing : IsResting seen may_leave meta → found seen meta ≡ found_with (found seen n.meta) (uncopied m ∷ []) → IsDoing seen may_leave new way_new history w least
+      alone_doing rests says =
+          record {
+            begun = d.begun;
+            few = d.few;
+            told = d.told;
+            inside = d.inside;
+            since = since_then d.begun n.store store way.place d.since is;
+            fits = subst (λ (s : StoreView). Fits s.control.grain s.control.tables n.script) (sym is) d.fits;
+            under = moved.0.under;
+            number = ap (λ (z : Doing). z.number) step.after ∙ d.number;
+            by_main = ap (λ (z : Doing). z.actor) step.after ∙ d.by_main;
+            asked = subst (λ (a : Ask). Asks grain (agenda_of grain n.script) w (0, request_of a)) (sym ask_is) d.asked;
+            steps = d.steps;
+            in_volume = subst (λ (a : Ask). IsInVolume grain w (request_of a)) (sym ask_is) d.in_volume;
+            steps_are = subst (λ (a : Ask). AreStepsOf grain w (request_of a) d.steps) (sym ask_is) d.steps_are;
+            before = d.before;
+            run = d.run;
+            point = noted x d.point;
+            came = moved.0.came;
+            keeps = put_keeps seen may_leave grain old new w way.due d.point x d.keeps fit rests says refl d.keeps.rows
+                (have_still n.disks n.store store way.place inside is (stay_new.ids ∙ sym stay_old.ids) (stay_new.disks ∙ sym stay_old.disks) d.keeps.volumes)
+                (matches_by (kept_after d.point.kept x) moved.1);
+          }
+
+  pub alone_made : (end : StepEnd) (doing : Doing) (store : StoreView) (step : IsStepOf way.doing (lane_in n.store way.place) end doing (lane_in store way.place)) (is : IsInLane way.place n.store store) → IsResting seen may_leave meta →
+      found seen meta ≡ found_with (found seen n.meta) (uncopied m ∷ []) → (history : HistoryState) →
+      WayMade seen may_leave moment left_since done n way (record n { store = store; meta = meta; under_way = Some (record { place = way.place; doing = doing; due = None }) }) history history
+  alone_made end doing store step is rests says history =
+      record {
+        on = λ w least d. inl (record {
+          same = refl;
+          live = live;
+          grain = ap (λ (s : StoreView). s.control.grain) is;
+          at = alone_doing history w least d end doing store step is rests says;
+          goes = λ read. stays;
+        });
+        any_moment = λ w least d. alone_leaves history w least d end doing store step is;
+        stopped = tt;
+        full = λ f. absurd cc;
+      }
+
+  pub alone_failed : (result : Result (Unit {0}) NotedStop) (given stop : NotedStop) → result ≡ Err given → given ≡ stop → (stop ≡ LogFull → ⊥) → (history : HistoryState) →
+      WayMade seen may_leave moment left_since result n way (record n { meta = meta }) history history
+  alone_failed result given stop e same other history =
+      subst (λ (z : Result (Unit {0}) NotedStop). WayMade seen may_leave moment left_since z n way (record n { meta = meta }) history history) (sym (e ∙ ap (λ (z : NotedStop). Err z) same))
+      (record {
+        on = tt;
+        any_moment = λ w least d. failed_leaves history w least d;
+        stopped = λ w least d. inl (refl, alone_stops history w least d);
+        full = λ f. absurd (other (same_stop stop f));
+      })

@@ -1,0 +1,226 @@
+-- A step of data of the entry that is under way: it is under way behind it too, with the record that is then due.
+use Rattle.std.proofs.Common.{◌≡◌, ◌≢◌, ◌⊎◌, ℕ, ◌<◌, ◌≤◌, Bool, true, false, Option, Some, None, List, length, map, set, All, slice_index_or, slice_set, refl, sym, ap, subst, ◌∙◌, inl, inr, length-set, get_or-set_same, arith}
+use Rattle.std.specs.List.{list_any}
+use Rattle.std.proofs.lemmas.List.{get_or_default, set-set}
+use Rattle.std.proofs.lemmas.List.Elements.{All-get_or, All-set}
+use Rattle.fc_agenda.specs.Goes.{stays}
+use Rattle.fc_base.specs.declared.size.GrainSize.{GrainSize}
+use Rattle.fc_base.specs.declared.volume.Volume.{Volume}
+use Rattle.fc_changed.specs.Row.{Row}
+use Rattle.fc_entry.specs.HistoryState.{HistoryState}
+use Rattle.fc_grains.specs.Grains.{total_of}
+use Rattle.fc_held.specs.Held.{HasVolumes, HaveVolumes, MatchAll}
+use Rattle.fc_image.specs.declared.image.MetaImage.{MetaImage}
+use Rattle.fc_image.specs.declared.record.MetaRecord.{MetaRecord}
+use Rattle.fc_kept.specs.Actions.{is_unmarked}
+use Rattle.fc_kept.specs.Disks.{NamedDisk}
+use Rattle.fc_lane.specs.Lane.{LaneView}
+use Rattle.fc_lane.specs.declared.doing.Doing.{Doing}
+use Rattle.fc_legal.specs.Agenda.{Asks}
+use Rattle.fc_legal.specs.Whole.{Whole, part_of_rows, lane_at}
+use Rattle.fc_noted.proofs.GoingAlong.{matches_along}
+use Rattle.fc_noted.proofs.InHand.{in_hand}
+use Rattle.fc_noted.proofs.Moments.{doing_found, hold_either, still_leaves}
+use Rattle.fc_noted.specs.Making.{CopiesNext, IsMarkedBy, IsMarkedNext, WayMade, done}
+use Rattle.fc_noted.specs.Noted.{IsDoing, Keeps}
+use Rattle.fc_noted.specs.Stopping.{MayBeRecovered, MayHold}
+use Rattle.fc_noted.specs.declared.noted.Noted.{Noted}
+use Rattle.fc_noted.specs.declared.noted.UnderWay.{UnderWay}
+use Rattle.fc_parts.specs.Law.{IsInVolume}
+use Rattle.fc_kept.specs.Prefix.{AreStepsOf}
+use Rattle.fc_script.specs.Asking.{Fits}
+use Rattle.fc_script.specs.Script.{agenda_of}
+use Rattle.fc_stands.specs.Store.{IsLaneAt, StoreView}
+use Rattle.fc_steps.specs.Asking.{request_of}
+use Rattle.fc_steps.specs.Moving.{SameLane}
+use Rattle.fc_steps.specs.UnderWay.{after_step, next_of}
+use Rattle.fc_steps.specs.declared.ask.Ask.{Ask}
+use Rattle.fc_steps.specs.declared.body.StepEnd.{StepEnd}
+use Rattle.fc_steps.specs.declared.stepping.Next.{Next}
+use Rattle.fc_steps.specs.declared.stepping.Next.TheVariants.{Move as NextMove, Own, Over}
+use Rattle.fc_steps.specs.declared.stepping.Steps.{Steps}
+use Rattle.fc_store.specs.Stepping.{IsInLane, IsStepOf, lane_in, no_lane}
+use Rattle.law_crash.specs.Doing.{with_disks}
+use Rattle.law_crash.specs.Points.{Point}
+use Rattle.law_noted.proofs.DataInHand.{same_new, same_old}
+use Rattle.law_noted.proofs.DataWhole.{data_law_holds}
+use Rattle.law_noted.proofs.HandOn.{is_wanted}
+use Rattle.law_noted.specs.DataSteps.{GoAlong, IsInHand, IsNextStep, IsStepped, NeedsNoMark}
+use Rattle.law_noted.specs.Records.{kept_by, record_after}
+
+-- ---- one lane of a store
+
+-- what is asked stays
+pub same_ask : (next : Next) (end : StepEnd) (s : Steps) → (after_step next end s).ask ≡ s.ask
+same_ask (NextMove m) end s = refl
+same_ask (Own part) end s = refl
+same_ask Over end s = refl
+
+-- a lane that changed twice
+pub since_then : (begun old new : StoreView) (place : ℕ) → old ≡ record begun { lanes = slice_set begun.lanes place (lane_in old place) } → IsInLane place old new →
+    new ≡ record begun { lanes = slice_set begun.lanes place (lane_in new place) }
+since_then begun old new place was is =
+    is ∙ ((λ i. record { control = (was i).control; lanes = slice_set (was i).lanes place (lane_in new place) })
+    ∙ ap (λ (ls : List LaneView). record begun { lanes = ls }) (set-set begun.lanes place (lane_in old place) (lane_in new place)))
+
+-- the same volumes, and no more disks
+pub have_still : (count : ℕ) (old new : StoreView) (place : ℕ) → place < length old.lanes → IsInLane place old new →
+    map (λ v. v.volume) (lane_in new place).grains.volumes ≡ map (λ v. v.volume) (lane_in old place).grains.volumes → (lane_in new place).grains.disks ≡ (lane_in old place).grains.disks →
+    HaveVolumes count old → HaveVolumes count new
+have_still count old new place inside is ids disks have =
+    let Few : LaneView → Type 0 = λ v. total_of v.grains.disks ≤ count in
+    let Has : LaneView → Type 0 = HasVolumes old.control.tables.volumes in
+    subst (HaveVolumes count) (sym is)
+    (record {
+      volumes = All-set Has old.lanes place (lane_in new place) (ids ∙ All-get_or Has old.lanes place no_lane inside have.volumes) have.volumes;
+      few = All-set Few old.lanes place (lane_in new place)
+          (subst (λ d. total_of d ≤ count) (sym disks) (All-get_or Few old.lanes place no_lane inside have.few)) have.few;
+    })
+
+module _ {C D : Type 0} (seen : D → List ℕ) (may_leave : D → List ℕ → Type 0) (old : Noted C D) (way : UnderWay) (history : HistoryState) (w : Whole) (least : List Row)
+    (d : IsDoing seen may_leave old way history w least) (none : way.due ≡ None) where
+  abbrev grain : GrainSize
+  grain = d.begun.control.grain
+
+  abbrev lane : LaneView
+  lane = lane_in d.begun way.place
+
+  abbrev now : LaneView
+  now = lane_in old.store way.place
+
+  pub hand_none : IsInHand d.begun.control.grain w least way.place way.doing (lane_in d.begun way.place) (lane_in old.store way.place) d.steps d.before None d.point
+  hand_none = subst (λ (o : Option MetaRecord). IsInHand grain w least way.place way.doing lane now d.steps d.before o d.point) none (in_hand seen may_leave old way history w least d)
+
+  pub doing_inside : way.place < length old.store.lanes
+  doing_inside =
+      subst (λ (s : StoreView). way.place < length s.lanes) (sym d.since) (subst (λ (k : ℕ). way.place < k) (sym (length-set d.begun.lanes way.place now)) d.inside)
+
+  -- the lane that is seen at its place
+  pub seen_lane : (all : List LaneView) (v : LaneView) → all ≡ old.store.lanes → v ≡ slice_index_or all way.place v → v ≡ lane_in old.store way.place
+  seen_lane all v are is = is ∙ (ap (λ (ls : List LaneView). slice_index_or ls way.place v) are ∙ sym (get_or_default old.store.lanes way.place no_lane v doing_inside))
+
+  pub rows_are : (lane_in d.begun way.place).changes.rows ≡ part_of_rows (lane_at d.begun.control.grain w way.place) w.rows
+  rows_are = let at : IsLaneAt grain w way.place lane = d.told.0.each way.place no_lane d.inside in at.stands.rows
+
+  needs_by : (z : Next) → IsMarkedBy old way z → NeedsNoMark d.point.kept.rows way.doing.steps.grain z
+  needs_by (Own part) marked =
+      sym (is_wanted grain w least way.place way.doing lane now d.steps d.before d.point hand_none part old.marks.items rows_are d.keeps.rows) ∙ marked
+  needs_by (NextMove m) marked = tt
+  needs_by Over marked = tt
+
+  pub matches_none : MatchAll d.begun.control.grain old.named d.point.kept old.store.lanes d.point.disks
+  matches_none = subst (λ (o : Option MetaRecord). MatchAll grain old.named (kept_by o d.point.kept) old.store.lanes d.point.disks) none d.keeps.matches
+
+  -- the entry behind a step, with a record that is due and other disks
+  module _ (store : StoreView) (doing : Doing) (due : Option MetaRecord) (disks : List (List NamedDisk)) (is : IsInLane way.place old.store store) (number : doing.number ≡ way.doing.number) (actor : doing.actor ≡ way.doing.actor) (ask : doing.steps.ask ≡ way.doing.steps.ask)
+      (h : IsInHand grain w least way.place doing lane (lane_in store way.place) d.steps d.before due (with_disks disks d.point))
+      (along : GoAlong grain w way.place d.point.kept (kept_by due d.point.kept) now.grains (lane_in store way.place).grains d.point.disks disks) where
+    abbrev way_new : UnderWay
+    way_new = record { place = way.place; doing = doing; due = due }
+
+    abbrev new : Noted C D
+    new = record old { store = store; under_way = Some (record { place = way.place; doing = doing; due = due }) }
+
+    same_control : store.control ≡ old.store.control
+    same_control = ap (λ (s : StoreView). s.control) is
+
+    kept_on : Keeps seen may_leave grain new.meta new w due (with_disks disks d.point)
+    kept_on =
+        let stay : SameLane lane.grains now.grains = same_old grain w least way.place way.doing lane now d.steps d.before d.point hand_none in
+        let stays : SameLane lane.grains (lane_in store way.place).grains = same_new grain w least way.place way.doing lane now d.steps d.before d.point hand_none doing (lane_in store way.place) h.under ask in
+        record {
+          rests = d.keeps.rests;
+          image = d.keeps.image;
+          says = d.keeps.says;
+          sound = d.keeps.sound;
+          good = d.keeps.good;
+          kept = d.keeps.kept;
+          rows = d.keeps.rows;
+          named = d.keeps.named;
+          volumes = have_still old.disks old.store store way.place doing_inside is (stays.ids ∙ sym stay.ids) (stays.disks ∙ sym stay.disks) d.keeps.volumes;
+          matches = subst (λ (ls : List LaneView). MatchAll grain old.named (kept_by due d.point.kept) ls disks) (sym (ap (λ (s : StoreView). s.lanes) is))
+              (matches_along grain w way.place old.named d.point.kept (kept_by due d.point.kept) old.store.lanes now (lane_in store way.place) d.point.disks disks
+              (λ e. get_or_default old.store.lanes way.place e no_lane doing_inside) along (stays.disks ∙ sym stay.disks) matches_none);
+        }
+
+    doing_on : IsDoing seen may_leave new way_new history w least
+    doing_on =
+        record {
+          begun = d.begun;
+          few = d.few;
+          told = d.told;
+          inside = d.inside;
+          since = since_then d.begun old.store store way.place d.since is;
+          fits = subst (λ (s : StoreView). Fits s.control.grain s.control.tables old.script) (sym is) d.fits;
+          under = h.under;
+          number = number ∙ d.number;
+          by_main = actor ∙ d.by_main;
+          asked = subst (λ (a : Ask). Asks grain (agenda_of grain old.script) w (0, request_of a)) (sym ask) d.asked;
+          steps = d.steps;
+          in_volume = subst (λ (a : Ask). IsInVolume grain w (request_of a)) (sym ask) d.in_volume;
+          steps_are = subst (λ (a : Ask). AreStepsOf grain w (request_of a) d.steps) (sym ask) d.steps_are;
+          before = d.before;
+          run = d.run;
+          point = with_disks disks d.point;
+          came = h.came;
+          keeps = kept_on;
+        }
+
+  -- behind the next step of data
+  module _ (end : StepEnd) (doing : Doing) (store : StoreView) (step : IsStepOf way.doing (lane_in old.store way.place) end doing (lane_in store way.place)) (is : IsInLane way.place old.store store)
+      (next : next_of way.doing.steps ≢ Over) (marked : IsMarkedNext old way) (copies : CopiesNext old way) where
+    due_next : Option MetaRecord
+    due_next = record_after (next_of way.doing.steps) end way.doing.steps.grain
+
+    stepped : IsStepped grain w least way.place doing lane now (lane_in store way.place) d.steps d.before (record_after (next_of way.doing.steps) end way.doing.steps.grain) d.point
+    stepped =
+        data_law_holds.steps grain w least way.place way.doing lane now d.steps d.before d.point end doing (lane_in store way.place) hand_none
+        (record { way = step.way; after = step.after; moved = step.moved; wrote = step.wrote }) next copies (needs_by (next_of way.doing.steps) marked)
+
+    ask_is : doing.steps.ask ≡ way.doing.steps.ask
+    ask_is = ap (λ (x : Doing). x.steps.ask) step.after ∙ same_ask (next_of way.doing.steps) end way.doing.steps
+
+    abbrev new_way : UnderWay
+    new_way = record { place = way.place; doing = doing; due = record_after (next_of way.doing.steps) end way.doing.steps.grain }
+
+    pub data_doing : IsDoing seen may_leave (record old { store = store; under_way = Some new_way }) new_way history w least
+    data_doing =
+        doing_on store doing (record_after (next_of way.doing.steps) end way.doing.steps.grain) stepped.disks is
+        (ap (λ (x : Doing). x.number) step.after) (ap (λ (x : Doing). x.actor) step.after) ask_is stepped.in_hand stepped.along
+
+-- what a step of data makes of a noted store
+module _ {C D : Type 0} (seen : D → List ℕ) (may_leave : D → List ℕ → Type 0) (moment : D → ℕ) (left_since : D → ℕ → List ℕ → Type 0) (only_now : (disk : D) (c : List ℕ) → left_since disk (moment disk) c → may_leave disk c)
+    (n : Noted C D) (way : UnderWay) (none : way.due ≡ None) (live : n.live ≡ true) (end : StepEnd) (doing : Doing) (store : StoreView)
+    (step : IsStepOf way.doing (lane_in n.store way.place) end doing (lane_in store way.place)) (is : IsInLane way.place n.store store)
+    (next : next_of way.doing.steps ≢ Over) (marked : IsMarkedNext n way) (copies : CopiesNext n way) where
+  abbrev old : Noted C D
+  old = record n { under_way = Some way }
+
+  abbrev way_behind : UnderWay
+  way_behind = record { place = way.place; doing = doing; due = record_after (next_of way.doing.steps) end way.doing.steps.grain }
+
+  abbrev behind : Noted C D
+  behind = record n { store = store; under_way = Some (record { place = way.place; doing = doing; due = record_after (next_of way.doing.steps) end way.doing.steps.grain }) }
+
+  goes_behind : (history : HistoryState) (w : Whole) (least : List Row) → IsDoing seen may_leave (record n { under_way = Some way }) way history w least → IsDoing seen may_leave behind way_behind history w least
+  goes_behind history w least d = data_doing seen may_leave old way history w least d none end doing store step is next marked copies
+
+  pub data_made : (history : HistoryState) → WayMade seen may_leave moment left_since done n way behind history history
+  unfolding goes_behind data_doing doing_on kept_on
+  data_made history =
+      record {
+        on = λ w least d. inl (record { same = refl; live = live; grain = ap (λ (s : StoreView). s.control.grain) is; at = goes_behind history w least d; goes = λ read. stays });
+        any_moment = λ w least d.
+            still_leaves seen may_leave moment left_since only_now old behind w least d.keeps.image refl d.keeps.says d.keeps.rests.durable
+            (hold_either n.store store n.script n.named w least d.keeps.image (ap (λ (s : StoreView). s.control.grain) is) (doing_found seen may_leave old way history w least d)
+            (doing_found seen may_leave behind way_behind history w least (goes_behind history w least d)));
+        stopped = tt;
+        full = λ f. absurd cc;
+      }
+
+  -- with the record that is said to be due
+  pub data_made_by : (due : Option MetaRecord) → due ≡ record_after (next_of way.doing.steps) end way.doing.steps.grain → (history : HistoryState) →
+      WayMade seen may_leave moment left_since done n way (record n { store = store; under_way = Some (record { place = way.place; doing = doing; due = due }) }) history history
+  data_made_by due e history =
+      subst (λ (o : Option MetaRecord). WayMade seen may_leave moment left_since done n way (record n { store = store; under_way = Some (record { place = way.place; doing = doing; due = o }) }) history history) (sym e)
+      (data_made history)

@@ -1,0 +1,205 @@
+-- A line answered step by step: one step more, and an end.
+use Rattle.std.proofs.Common.{◌≡◌, ℕ, ◌≤◌, true, false, Option, Some, None, List, [], ◌∷◌, ◌++◌, length, append_assoc, Result, Ok, refl, sym, ap, subst, ◌∙◌, ◌⊎◌, inl, inr, arith}
+use Rattle.std.proofs.lemmas.List.{append-nil, length-append}
+use Rattle.fc_agenda.specs.Goes.{Goes, GoesToEnd, answers, passes, stays}
+use Rattle.fc_agenda.proofs.Going.{Goes-append}
+use Rattle.fc_base.specs.declared.command.Line.{Line}
+use Rattle.fc_base.specs.declared.fault.WordFault.{WordFault}
+use Rattle.fc_base.specs.declared.size.GrainSize.{GrainSize}
+use Rattle.fc_blocks.specs.Segments.{single}
+use Rattle.fc_changed.specs.Row.{Row}
+use Rattle.fc_entry.specs.HistoryState.{HistoryState}
+use Rattle.fc_entry.specs.declared.entry.Entry.{Entry}
+use Rattle.fc_legal.specs.Added.{Adds}
+use Rattle.fc_legal.specs.Agenda.{Agenda, Asks, Reading, Session, line_read, session_rules}
+use Rattle.fc_legal.specs.Whole.{Whole}
+use Rattle.fc_noted.specs.Noted.{CanStep, GoesOnTo, IsAt, IsAtBy, IsDoing, IsNotedAt, Logs, Stays}
+use Rattle.fc_noted.specs.declared.noted.Noted.{Noted}
+use Rattle.fc_noted.specs.declared.noted.UnderWay.{UnderWay}
+use Rattle.fc_script.specs.Passage.{GoesOn}
+use Rattle.fc_script.specs.Script.{agenda_of}
+use Rattle.fc_stands.specs.Store.{StandsFor, StoreView}
+use Rattle.fc_steps.specs.Asking.{request_of}
+
+-- ---- histories
+
+-- Entries brought an agenda from what was told to what is told.
+abbrev pub Brings : GrainSize → Agenda → Whole → Agenda → Whole → HistoryState → HistoryState → Type 0
+Brings grain a w b next before after = Adds before after (λ more. (read : Reading) → Goes (session_rules grain read) a w more b next)
+
+module _ (grain : GrainSize) (a b c : Agenda) (w mid : Whole) (x y : HistoryState) (first : Brings grain a w b mid x y) where
+  -- It went on without an entry.
+  pub brings_still : (z : HistoryState) → z ≡ y → GoesOn grain mid b c → Brings grain a w c mid x z
+  brings_still z same on = record {
+    more = first.more;
+    entries = ap (λ (h : HistoryState). h.entries) same ∙ first.entries;
+    are = λ read.
+        subst (λ (es : List Entry). Goes (session_rules grain read) a w es c mid) (append-nil first.more)
+        (Goes-append (session_rules grain read) a b c w mid mid first.more [] (first.are read) (on read));
+  }
+
+  -- Or by one.
+  pub brings_one : (z : HistoryState) (entry : Entry) (last : Whole) → z ≡ record y { entries = y.entries ++ entry ∷ [] } →
+      ((read : Reading) → Goes (session_rules grain read) b mid (entry ∷ []) c last) → Brings grain a w c last x z
+  brings_one z entry last pushed on = record {
+    more = first.more ++ entry ∷ [];
+    entries =
+        ap (λ (h : HistoryState). h.entries) pushed ∙ (ap (λ (es : List Entry). es ++ entry ∷ []) first.entries ∙ append_assoc x.entries first.more (entry ∷ []));
+    are = λ read. Goes-append (session_rules grain read) a b c w mid last first.more (entry ∷ []) (first.are read) (on read);
+  }
+
+-- ---- steps
+
+module _ {C D : Type 0} (seen : D → List ℕ) (may_leave : D → List ℕ → Type 0) where
+  -- Where the steps so far brought it: to something that is told, and the script goes on from there.
+  abbrev pub Came : Noted C D → HistoryState → Noted C D → HistoryState → Type 0
+  Came old before now after =
+      (w : Whole) (least : List Row) → IsNotedAt seen may_leave old before w least →
+      (next : Whole) × (least_next : List Row) × IsAt seen may_leave now after next least_next
+      × Brings old.store.control.grain (agenda_of old.store.control.grain old.script) w (agenda_of old.store.control.grain now.script) next before after
+
+  -- And another step may be made.
+  pub record Comes (old : Noted C D) (before : HistoryState) (now : Noted C D) (after : HistoryState) : Type 0 where
+    pub can : CanStep seen may_leave now after
+    pub grain : now.store.control.grain ≡ old.store.control.grain
+    pub came : Came old before now after
+
+  at_first : (n : Noted C D) (history : HistoryState) (w : Whole) (least : List Row) → IsNotedAt seen may_leave n history w least → IsAt seen may_leave n history w least
+  at_first n history w least at = subst (λ (o : Option UnderWay). IsAtBy seen may_leave o n history w least) (sym at.idle) at
+
+  pub comes_first : (n : Noted C D) (history : HistoryState) (w : Whole) (least : List Row) → IsNotedAt seen may_leave n history w least → n.live ≡ true → length history.entries ≤ 262144 →
+      Comes n history n history
+  comes_first n history w least at live room = record {
+    can = record { live = live; w = w; least = least; at = at_first n history w least at; room = room };
+    grain = refl;
+    came = λ v l there. (v, l, at_first n history v l there, record { more = []; entries = sym (append-nil history.entries); are = λ read. stays });
+  }
+
+  module _ (old mid : Noted C D) (before between : HistoryState) (comes : Comes old before mid between) (new : Noted C D) (after : HistoryState) where
+    abbrev begun : Agenda
+    begun = agenda_of old.store.control.grain old.script
+
+    -- what is told, and where the script is, behind what was told before the step
+    abbrev On : Whole → Type 0
+    On w = (next : Whole) × (least_next : List Row) × IsAt seen may_leave new after next least_next
+        × Brings old.store.control.grain (agenda_of old.store.control.grain old.script) w (agenda_of old.store.control.grain new.script) next before after
+
+    abbrev To : Whole → Whole → Type 0
+    To w m = Brings old.store.control.grain (agenda_of old.store.control.grain old.script) w (agenda_of old.store.control.grain mid.script) m before between
+
+    stayed : (w m : Whole) (least : List Row) → To w m → Stays seen may_leave m least between mid new after → On w
+    stayed w m least to s =
+        let on : GoesOn old.store.control.grain m (agenda_of old.store.control.grain mid.script) (agenda_of old.store.control.grain new.script) =
+        subst (λ (g : GrainSize). GoesOn g m (agenda_of g mid.script) (agenda_of g new.script)) (s.grain ∙ comes.grain) s.goes in
+        (m, least, s.at, brings_still old.store.control.grain begun (agenda_of old.store.control.grain mid.script) (agenda_of old.store.control.grain new.script) w m before between to after s.same on)
+
+    logged : (w m : Whole) (least : List Row) → To w m → Logs seen may_leave m least between mid new after → On w
+    logged w m least to l =
+        let One : GrainSize → Type 0 = λ g. (read : Reading) → Goes (session_rules g read) (agenda_of g mid.script) m (l.entry ∷ []) (agenda_of g new.script) l.next in
+        let one : One mid.store.control.grain = λ read.
+        Goes-append (session_rules mid.store.control.grain read) (agenda_of mid.store.control.grain mid.script) (agenda_of mid.store.control.grain l.asking) (agenda_of mid.store.control.grain new.script)
+        m m l.next [] (l.entry ∷ []) (l.reached read) (answers l.answer.asked l.answer.right (l.left.goes read)) in (
+          l.next,
+          l.least_next,
+          l.at,
+          brings_one old.store.control.grain begun (agenda_of old.store.control.grain mid.script) (agenda_of old.store.control.grain new.script) w m before between to after l.entry l.next l.pushed
+              (subst One comes.grain one),
+        )
+
+    went : (w m : Whole) (least : List Row) → To w m → Stays seen may_leave m least between mid new after ⊎ Logs seen may_leave m least between mid new after → On w
+    went w m least to (inl s) = stayed w m least to s
+    went w m least to (inr l) = logged w m least to l
+
+    -- One step more.
+    pub comes_on : ((w : Whole) (least : List Row) → IsAt seen may_leave mid between w least → GoesOnTo seen may_leave true w least mid between new after) → Comes old before new after
+    comes_on made =
+        let c = comes.can in
+        by (made c.w c.least c.at)
+      where
+        came_on : Came old before new after
+        came_on w least at = let m = comes.came w least at in went w m.0 m.1 m.3 (made m.0 m.1 m.2)
+
+        by : Stays seen may_leave comes.can.w comes.can.least between mid new after ⊎ Logs seen may_leave comes.can.w comes.can.least between mid new after → Comes old before new after
+        by (inl s) = record {
+          can = record {
+            live = s.live;
+            w = comes.can.w;
+            least = comes.can.least;
+            at = s.at;
+            room = subst (λ (h : HistoryState). length h.entries ≤ 262144) (sym s.same) comes.can.room;
+          };
+          grain = s.grain ∙ comes.grain;
+          came = came_on;
+        }
+        by (inr l) = record {
+          can = record {
+            live = l.live;
+            w = l.next;
+            least = l.least_next;
+            at = l.at;
+            room = subst (λ (h : HistoryState). length h.entries ≤ 262144) (sym l.pushed) (omega (arith, l.room, length-append between.entries (l.entry ∷ [])));
+          };
+          grain = l.grain ∙ comes.grain;
+          came = came_on;
+        }
+
+  -- ---- an end
+
+  -- Nothing that is under way is asked any more.
+  rests_by : (o : Option UnderWay) (n : Noted C D) (history : HistoryState) (w : Whole) (least : List Row) → IsAtBy seen may_leave o n history w least →
+      agenda_of n.store.control.grain n.script ≡ Session [] → IsNotedAt seen may_leave n history w least
+  rests_by None n history w least at over = at
+  rests_by (Some way) n history w least d over =
+      let over_then : agenda_of d.begun.control.grain n.script ≡ Session [] =
+      subst (λ (g : GrainSize). agenda_of g n.script ≡ Session []) (ap (λ (s : StoreView). s.control.grain) d.since) over in
+      let none : Asks d.begun.control.grain (Session []) w (0, request_of way.doing.steps.ask) =
+      subst (λ (a : Agenda). Asks d.begun.control.grain a w (0, request_of way.doing.steps.ask)) over_then d.asked in
+      absurd (cc none)
+
+  -- The line is answered to its end.
+  abbrev pub LineEnds : Noted C D → HistoryState → Line → Noted C D → HistoryState → Type 0
+  LineEnds first before line new after =
+      (read : Reading) (bytes : List ℕ) (w : Whole) (least : List Row) → read w.books bytes ≡ Ok line → IsNotedAt seen may_leave first before w least →
+      (next : Whole) × (least_next : List Row) × IsNotedAt seen may_leave new after next least_next
+      × Adds before after (λ more. GoesToEnd (session_rules first.store.control.grain read) (Session (single bytes ∷ [])) w more next)
+
+  module _ (first begun : Noted C D) (before : HistoryState) (line : Line) (others : begun ≡ record first { script = begun.script })
+      (goes : (w : Whole) → StandsFor first.store w → GoesOn first.store.control.grain w (line_read first.store.control.grain w (Ok line) []) (agenda_of first.store.control.grain begun.script))
+      (taken : (history : HistoryState) (w : Whole) (least : List Row) → IsNotedAt seen may_leave first history w least → IsNotedAt seen may_leave begun history w least)
+      (mid : Noted C D) (between : HistoryState) (comes : Comes begun before mid between) (new : Noted C D) (after : HistoryState)
+      (made : (w : Whole) (least : List Row) → IsAt seen may_leave mid between w least → GoesOnTo seen may_leave false w least mid between new after) where
+    abbrev grain : GrainSize
+    grain = first.store.control.grain
+
+    -- by its script
+    script_ends : (w m last : Whole) (least : List Row) → Stays seen may_leave m least between mid new after → agenda_of new.store.control.grain new.script ≡ Session [] →
+        Brings begun.store.control.grain (agenda_of begun.store.control.grain begun.script) w (agenda_of begun.store.control.grain new.script) last before after →
+        Brings first.store.control.grain (agenda_of first.store.control.grain begun.script) w (Session []) last before after
+    script_ends w m last least s over to =
+        let over_first : agenda_of begun.store.control.grain new.script ≡ Session [] =
+        subst (λ (g : GrainSize). agenda_of g new.script ≡ Session []) (s.grain ∙ comes.grain) over in
+        subst (λ (g : GrainSize). Brings g (agenda_of g begun.script) w (Session []) last before after) (ap (λ (n : Noted C D). n.store.control.grain) others)
+        (subst (λ (a : Agenda). Brings begun.store.control.grain (agenda_of begun.store.control.grain begun.script) w a last before after) over_first to)
+
+    pub line_ends : LineEnds first before line new after
+    line_ends read bytes w least is there =
+        let m = comes.came w least (taken before w least there) in
+        let s = made m.0 m.1 m.2 in
+        let on = stayed begun mid before between comes new after w m.0 m.1 m.3 s.0 in
+        let all = script_ends w m.0 on.0 m.1 s.0 s.1 on.3 in (
+          on.0,
+          on.1,
+          rests_by new.under_way new after on.0 on.1 on.2 s.1,
+          record {
+            more = all.more;
+            entries = all.entries;
+            are = record {
+              end = Session [];
+              goes =
+                  passes (ap (λ (l : Result Line WordFault). Some (line_read grain w l [])) is)
+                  (Goes-append (session_rules grain read) (line_read grain w (Ok line) []) (agenda_of grain begun.script) (Session []) w w on.0 [] all.more (goes w there.told.0 read)
+                  (all.are read));
+              over = refl;
+            };
+          },
+        )

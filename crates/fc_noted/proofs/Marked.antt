@@ -1,0 +1,184 @@
+-- A write that is next of an entry under way is marked.
+use Rattle.std.proofs.Common.{◌≡◌, ℕ, ◌≤◌, Bool, true, Option, Some, None, List, [], ◌∷◌, ◌++◌, refl, sym, ap, subst, ◌∙◌, inl, Vec, Global}
+use Rattle.std.specs.List.{list_any}
+use Rattle.std.specs.Prelude.{Err, Result}
+use Rattle.fc_agenda.specs.Goes.{stays}
+use Rattle.fc_base.specs.declared.ids.GrainNo.{GrainNo}
+use Rattle.fc_base.specs.declared.ids.VolId.{VolId}
+use Rattle.fc_base.specs.declared.request.WritePart.{WritePart}
+use Rattle.fc_base.specs.declared.size.GrainSize.{GrainSize}
+use Rattle.fc_changed.specs.Row.{Row}
+use Rattle.fc_entry.specs.HistoryState.{HistoryState}
+use Rattle.fc_format.specs.Halves.{recovered}
+use Rattle.fc_held.specs.Held.{MatchAll}
+use Rattle.fc_image.specs.Records.{after_record}
+use Rattle.fc_image.specs.declared.image.MetaImage.{MetaImage}
+use Rattle.fc_image.specs.declared.record.MetaRecord.{MetaRecord}
+use Rattle.fc_image.specs.declared.record.MetaRecord.TheVariants.{Changing}
+use Rattle.fc_kept.specs.Actions.{is_unmarked}
+use Rattle.fc_kept.specs.Disks.{NamedDisk}
+use Rattle.fc_kept.specs.Kept.{Kept, kept_after, rows_kept}
+use Rattle.fc_lane.specs.Lane.{LaneView}
+use Rattle.fc_legal.specs.Whole.{Whole}
+use Rattle.fc_marks.specs.Marks.{is_open_any, marked}
+use Rattle.fc_marks.specs.declared.error.NotedStop.{NotedStop}
+use Rattle.fc_marks.specs.declared.error.NotedStop.TheVariants.{LogFull}
+use Rattle.fc_marks.specs.declared.marks.Mark.{Mark}
+use Rattle.fc_meta.specs.Answers.{LeavesEither, found_with}
+use Rattle.fc_meta.specs.States.{IsResting, found}
+use Rattle.fc_meta.specs.declared.meta.Meta.{Meta}
+use Rattle.fc_metadisk.specs.Disk.{LeavesOnly}
+use Rattle.fc_noted.proofs.Data.{hand_none, rows_are}
+use Rattle.fc_noted.proofs.Fitting.{IsFit, mark_fits}
+use Rattle.fc_noted.proofs.InHand.{mark_recovered, stands_recovered}
+use Rattle.fc_noted.proofs.Moments.{doing_found, hold_either, still_leaves}
+use Rattle.fc_noted.proofs.Putting.{hold_both, put_doing, put_keeps, put_leaves, put_says, put_stops, same_stop}
+use Rattle.fc_noted.specs.Making.{WayMade, done}
+use Rattle.fc_noted.specs.Noted.{IsDoing}
+use Rattle.fc_noted.specs.Stopping.{HasStopped, LeavesRecoverable, MayBeRecovered}
+use Rattle.fc_noted.specs.declared.noted.Noted.{Noted}
+use Rattle.fc_noted.specs.declared.noted.UnderWay.{UnderWay}
+use Rattle.fc_stands.specs.Store.{StoreView}
+use Rattle.fc_steps.specs.UnderWay.{next_of}
+use Rattle.fc_steps.specs.declared.stepping.Next.TheVariants.{Own}
+use Rattle.fc_store.specs.Stepping.{lane_in}
+use Rattle.law_noted.proofs.HandOn.{is_wanted, put_mark}
+use Rattle.law_noted.proofs.Marking.{row_law_holds}
+use Rattle.law_noted.specs.DataSteps.{IsInHand}
+use Rattle.law_noted.specs.Records.{kept_by}
+
+-- ---- whether it is wanted
+
+-- by the rows and the marks that are seen
+pub wants_is : (rows lane_rows : List Row) (marks ms : List Mark) (v : VolId) (g : GrainNo) (place : ℕ) (b : Bool) → rows ≡ lane_rows → marks ≡ ms → b ≡ is_open_any rows marks v g place → b ≡ true →
+    is_open_any lane_rows ms v g place ≡ true
+wants_is rows lane_rows marks ms v g place b er em eb e = (λ i. is_open_any (sym er i) (sym em i) v g place) ∙ (sym eb ∙ e)
+
+-- ---- it is put
+
+-- a mark leaves what is lost
+matches_mark : (grain : GrainSize) (named : ℕ) (k : Kept) (part : WritePart) (g : ℕ) (lanes : List LaneView) (ds : List (List NamedDisk)) → MatchAll grain named k lanes ds →
+    MatchAll grain named (kept_after k (Changing part.volume record { 0 = g })) lanes ds
+matches_mark grain named k part g lanes ds m =
+    record { count = m.count; each = λ i d il. let x = m.each i d il in record { once = x.once; there = x.there; none = x.none; free = x.free; bytes = x.bytes } }
+
+module _ {C D : Type 0} (seen : D → List ℕ) (may_leave : D → List ℕ → Type 0) (moment : D → ℕ) (left_since : D → ℕ → List ℕ → Type 0) (counts_now : (disk : D) (t : ℕ) (c : List ℕ) → t ≤ moment disk → may_leave disk c → left_since disk t c)
+    (n : Noted C D) (way : UnderWay) (part : WritePart) (none : way.due ≡ None) (live : n.live ≡ true) (next : next_of way.doing.steps ≡ Own part)
+    (wants : is_open_any (lane_in n.store way.place).changes.rows n.marks.items part.volume way.doing.steps.grain way.doing.steps.place ≡ true)
+    (meta : Meta D) (marks : Vec Mark Global) (more : marks.items ≡ n.marks.items ++ record { volume = part.volume; grain = way.doing.steps.grain } ∷ [])
+    (run : LeavesOnly moment left_since n.meta.disk meta.disk (LeavesEither (found seen n.meta) (found_with (found seen n.meta) (Changing part.volume way.doing.steps.grain ∷ [])))) where
+  abbrev old : Noted C D
+  old = record n { under_way = Some way }
+
+  abbrev x : MetaRecord
+  x = Changing part.volume way.doing.steps.grain
+
+  abbrev way_new : UnderWay
+  way_new = record { place = way.place; doing = way.doing; due = None }
+
+  abbrev new : Noted C D
+  new = record n { meta = meta; marks = marks; under_way = Some (record { place = way.place; doing = way.doing; due = None }) }
+
+  -- behind an error
+  abbrev left : Noted C D
+  left = record n { meta = meta; marks = marks }
+
+  module _ (history : HistoryState) (w : Whole) (least : List Row) (d : IsDoing seen may_leave (record n { under_way = Some way }) way history w least) where
+    abbrev grain : GrainSize
+    grain = d.begun.control.grain
+
+    hand : IsInHand d.begun.control.grain w least way.place way.doing (lane_in d.begun way.place) (lane_in n.store way.place) d.steps d.before None d.point
+    hand = hand_none seen may_leave old way history w least d none
+
+    due : list_any (is_unmarked part.volume.0 way.doing.steps.grain.0) d.point.kept.rows ≡ true
+    due =
+        sym (is_wanted grain w least way.place way.doing (lane_in d.begun way.place) (lane_in n.store way.place) d.steps d.before d.point hand part n.marks.items
+        (rows_are seen may_leave old way history w least d none) d.keeps.rows)
+        ∙ wants
+
+    fit : IsFit d.point.kept x
+    fit = mark_fits grain w least way.place way.doing (lane_in d.begun way.place) (lane_in n.store way.place) d.steps d.before d.point hand part next due
+
+    abbrev Recovers : MetaImage → Type 0
+    Recovers i = MayBeRecovered n.store.control.grain n.script n.named n.store.lanes w least i
+
+    same_grain : n.store.control.grain ≡ d.begun.control.grain
+    same_grain = ap (λ (s : StoreView). s.control.grain) d.since
+
+    without : Recovers d.keeps.image
+    without = subst (λ (g : GrainSize). MayBeRecovered g n.script n.named n.store.lanes w least d.keeps.image) (sym same_grain) (stands_recovered seen may_leave old way history w least d)
+
+    with_it : Recovers (after_record d.keeps.image x)
+    with_it =
+        let both = put_says d.keeps.image d.point.kept x d.keeps.sound d.keeps.kept fit in
+        subst (λ (g : GrainSize). MayBeRecovered g n.script n.named n.store.lanes w least (after_record d.keeps.image x)) (sym same_grain)
+        (mark_recovered seen may_leave old way history w least d none part (after_record d.keeps.image x) next due both.0 both.1)
+
+    -- it goes on
+    mark_doing : IsResting seen may_leave meta → found seen meta ≡ found_with (found seen n.meta) (Changing part.volume way.doing.steps.grain ∷ []) → IsDoing seen may_leave new way_new history w least
+    mark_doing rests says =
+        let rows : (kept_after d.point.kept x).rows ≡ marked marks.items w.rows =
+        ap (λ (rs : List Row). rows_kept rs x) d.keeps.rows
+        ∙ (sym (row_law_holds.remembered n.marks.items w.rows part.volume way.doing.steps.grain) ∙ ap (λ (ms : List Mark). marked ms w.rows) (sym more)) in
+        let matches : MatchAll grain n.named d.point.kept n.store.lanes d.point.disks =
+        subst (λ (o : Option MetaRecord). MatchAll grain n.named (kept_by o d.point.kept) n.store.lanes d.point.disks) none d.keeps.matches in
+        put_doing seen may_leave old way history w least x meta marks d
+        (put_mark grain w least way.place way.doing (lane_in d.begun way.place) (lane_in n.store way.place) d.steps d.before d.point hand part next due)
+        (put_keeps seen may_leave grain old new w way.due d.point x d.keeps fit rests says refl rows d.keeps.volumes (matches_mark grain n.named d.point.kept part way.doing.steps.grain.0 n.store.lanes d.point.disks matches))
+
+    mark_leaves : LeavesOnly moment left_since n.meta.disk meta.disk (LeavesRecoverable old new w least)
+    mark_leaves = put_leaves seen may_leave moment left_since counts_now old new w least d.keeps.image x d.keeps.says run (hold_both n.store new.store n.script n.named w least d.keeps.image x refl without with_it)
+
+    -- or it stopped
+    mark_stops : HasStopped may_leave old left w least
+    mark_stops = put_stops seen may_leave moment left_since counts_now old left w least d.keeps.image x d.keeps.says run d.keeps.volumes without with_it
+
+    failed_leaves : LeavesOnly moment left_since n.meta.disk meta.disk (LeavesRecoverable old left w least)
+    failed_leaves = put_leaves seen may_leave moment left_since counts_now old left w least d.keeps.image x d.keeps.says run (hold_both n.store left.store n.script n.named w least d.keeps.image x refl without with_it)
+
+  mark_made : IsResting seen may_leave meta → found seen meta ≡ found_with (found seen n.meta) (Changing part.volume way.doing.steps.grain ∷ []) → (history : HistoryState) →
+      WayMade seen may_leave moment left_since done n way new history history
+  mark_made rests says history =
+      record {
+        on = λ w least d. inl (record { same = refl; live = live; grain = refl; at = mark_doing history w least d rests says; goes = λ read. stays });
+        any_moment = λ w least d. mark_leaves history w least d;
+        stopped = tt;
+        full = λ f. absurd cc;
+      }
+
+  -- with the way as it is
+  pub mark_made_by : IsResting seen may_leave meta → found seen meta ≡ found_with (found seen n.meta) (Changing part.volume way.doing.steps.grain ∷ []) → (history : HistoryState) →
+      WayMade seen may_leave moment left_since done n way (record n { meta = meta; marks = marks; under_way = Some way }) history history
+  mark_made_by rests says history =
+      let same : way ≡ way_new = λ i. record { place = way.place; doing = way.doing; due = none i } in
+      subst (λ (z : UnderWay). WayMade seen may_leave moment left_since done n way (record n { meta = meta; marks = marks; under_way = Some z }) history history) (sym same) (mark_made rests says history)
+
+  pub mark_failed : (result : Result (Unit {0}) NotedStop) (given stop : NotedStop) → result ≡ Err given → given ≡ stop → (stop ≡ LogFull → ⊥) → (history : HistoryState) →
+      WayMade seen may_leave moment left_since result n way (left) history history
+  mark_failed result given stop e same other history =
+      subst (λ (z : Result (Unit {0}) NotedStop). WayMade seen may_leave moment left_since z n way (left) history history) (sym (e ∙ ap (λ (z : NotedStop). Err z) same))
+      (record {
+        on = tt;
+        any_moment = λ w least d. failed_leaves history w least d;
+        stopped = λ w least d. inl (refl, mark_stops history w least d);
+        full = λ f. absurd (other (same_stop stop f));
+      })
+
+-- refused before the disk of metadata is called
+module _ {C D : Type 0} (seen : D → List ℕ) (may_leave : D → List ℕ → Type 0) (moment : D → ℕ) (left_since : D → ℕ → List ℕ → Type 0) (only_now : (disk : D) (c : List ℕ) → left_since disk (moment disk) c → may_leave disk c)
+    (n : Noted C D) (way : UnderWay) (marks : Vec Mark Global) where
+  pub mark_refused : (result : Result (Unit {0}) NotedStop) (given stop : NotedStop) → result ≡ Err given → given ≡ stop → (stop ≡ LogFull → ⊥) → (history : HistoryState) →
+      WayMade seen may_leave moment left_since result n way (record n { marks = marks }) history history
+  mark_refused result given stop e same other history =
+      let old : Noted C D = record n { under_way = Some way } in
+      let new : Noted C D = record n { marks = marks } in
+      subst (λ (z : Result (Unit {0}) NotedStop). WayMade seen may_leave moment left_since z n way (record n { marks = marks }) history history) (sym (e ∙ ap (λ (z : NotedStop). Err z) same))
+      (record {
+        on = tt;
+        any_moment = λ w least d.
+            still_leaves seen may_leave moment left_since only_now old new w least d.keeps.image refl d.keeps.says d.keeps.rests.durable
+            (hold_either n.store n.store n.script n.named w least d.keeps.image refl (doing_found seen may_leave old way history w least d) (doing_found seen may_leave old way history w least d));
+        stopped = λ w least d.
+            inl (refl, record { volumes = d.keeps.volumes; leaves = λ c left. (d.keeps.image, ap recovered (d.keeps.rests.durable c left) ∙ d.keeps.says, doing_found seen may_leave old way history w least d) });
+        full = λ f. absurd (other (same_stop stop f));
+      })

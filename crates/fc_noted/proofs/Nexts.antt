@@ -1,0 +1,197 @@
+-- What a line asks next begins behind what passes without an entry.
+use Rattle.std.proofs.Common.{◌≡◌, ℕ, ◌≤◌, Bool, true, false, Option, Some, None, List, [], length, Result, Ok, Err, IfOk, OnErr, refl, sym, ap, subst, ◌∙◌, inl, inr}
+use Rattle.std.specs.Prelude.{IsErrOf}
+use Rattle.fc_agenda.proofs.Going.{Goes-append}
+use Rattle.fc_agenda.specs.Goes.{stays}
+use Rattle.fc_base.specs.declared.size.GrainSize.{GrainSize}
+use Rattle.fc_changed.specs.Row.{Row}
+use Rattle.fc_entry.specs.HistoryState.{HistoryState}
+use Rattle.fc_format.specs.Halves.{Image, recovered}
+use Rattle.fc_image.specs.declared.image.MetaImage.{MetaImage}
+use Rattle.fc_lane.specs.Lane.{LaneView}
+use Rattle.fc_legal.specs.Agenda.{Agenda, session_rules}
+use Rattle.fc_legal.specs.Whole.{Whole}
+use Rattle.fc_marks.specs.declared.error.NotedStop.TheVariants.{LogFull, NoMemory as WantsMemory}
+use Rattle.fc_marks.specs.declared.error.NotedStop.{NotedStop}
+use Rattle.fc_meta.proofs.Moments.{weaker}
+use Rattle.fc_noted.proofs.Begun.{at_rest}
+use Rattle.fc_noted.proofs.Moments.{hold_either, resting_found, still_leaves}
+use Rattle.fc_noted.specs.Making.{HasStoppedBehind, StepMade, Stopped}
+use Rattle.fc_noted.specs.Noted.{GoesOnTo, IsAt, IsAtBy, IsNotedAt, Logs, Stays}
+use Rattle.fc_noted.specs.Stopping.{HasStopped, LeavesRecoverable, MayBeRecovered}
+use Rattle.fc_noted.specs.declared.noted.Noted.{Noted}
+use Rattle.fc_noted.specs.declared.noted.UnderWay.{UnderWay}
+use Rattle.fc_script.specs.Asking.{Fits, IsNext, IsNextOf}
+use Rattle.fc_script.specs.Passage.{GoesOn}
+use Rattle.fc_script.specs.Script.{agenda_of}
+use Rattle.fc_script.specs.declared.asking.Asked.{Asked}
+use Rattle.fc_script.specs.declared.script.Script.{Script}
+use Rattle.fc_stands.specs.Store.{StandsFor}
+
+goes_then : (grain : GrainSize) (w : Whole) (a b c : Agenda) → GoesOn grain w a b → GoesOn grain w b c → GoesOn grain w a c
+goes_then grain w a b c first more = λ read. Goes-append (session_rules grain read) a b c w w w [] [] (first read) (more read)
+
+-- what may be recovered where the script went on to another, which asks
+may_be_behind : (grain : GrainSize) (old script : Script) (named : ℕ) (lanes : List LaneView) (w : Whole) (least : List Row) (image : MetaImage) → GoesOn grain w (agenda_of grain old) (agenda_of grain script) →
+    MayBeRecovered grain script named lanes w least image → MayBeRecovered grain old named lanes w least image
+may_be_behind grain old script named lanes w least image goes m =
+    record {
+      request = m.request;
+      asking = m.asking;
+      reached = goes_then grain w (agenda_of grain old) (agenda_of grain script) (agenda_of grain m.asking) goes m.reached;
+      asked = m.asked;
+      sound = m.sound;
+      found = m.found;
+    }
+
+module _ {C D : Type 0} (seen : D → List ℕ) (may_leave : D → List ℕ → Type 0) (moment : D → ℕ) (left_since : D → ℕ → List ℕ → Type 0) (only_now : (disk : D) (c : List ℕ) → left_since disk (moment disk) c → may_leave disk c)
+    (old : Noted C D) (script : Script) (before : HistoryState) (idle : old.under_way ≡ None) where
+  abbrev on_script : Noted C D
+  on_script = record old { script = script }
+
+  -- ---- the script went on
+
+  module _ (goes : (w : Whole) → StandsFor old.store w → GoesOn old.store.control.grain w (agenda_of old.store.control.grain old.script) (agenda_of old.store.control.grain script))
+      (fits : Fits old.store.control.grain old.store.control.tables script) where
+    pub script_noted : (w : Whole) (least : List Row) → IsNotedAt seen may_leave old before w least → IsNotedAt seen may_leave (record old { script = script }) before w least
+    script_noted w least h =
+        let k = h.keeps in
+        record {
+          idle = h.idle;
+          told = h.told;
+          fits = fits;
+          point = h.point;
+          run = h.run;
+          keeps = record {
+            rests = k.rests;
+            image = k.image;
+            says = k.says;
+            sound = k.sound;
+            good = k.good;
+            kept = k.kept;
+            rows = k.rows;
+            named = k.named;
+            volumes = k.volumes;
+            matches = k.matches;
+          };
+        }
+
+    script_at : (w : Whole) (least : List Row) → IsAt seen may_leave old before w least → IsNotedAt seen may_leave (record old { script = script }) before w least
+    script_at w least at = script_noted w least (at_rest seen may_leave old before w least idle at)
+
+    script_is_at : (w : Whole) (least : List Row) → IsAt seen may_leave old before w least → IsAt seen may_leave on_script before w least
+    script_is_at w least at = subst (λ (o : Option UnderWay). IsAtBy seen may_leave o on_script before w least) (sym idle) (script_at w least at)
+
+    goes_there : (w : Whole) (least : List Row) → IsAt seen may_leave old before w least → GoesOn old.store.control.grain w (agenda_of old.store.control.grain old.script) (agenda_of old.store.control.grain script)
+    goes_there w least at = goes w (at_rest seen may_leave old before w least idle at).told.0
+
+    -- what is made of it then is made of it before
+    module _ (new : Noted C D) (after : HistoryState) (w : Whole) (least : List Row) (at : IsAt seen may_leave old before w least) where
+      abbrev g : GrainSize
+      g = old.store.control.grain
+
+      stays_behind : Stays seen may_leave w least before on_script new after → Stays seen may_leave w least before old new after
+      stays_behind s =
+          record {
+            same = s.same;
+            live = s.live;
+            grain = s.grain;
+            at = s.at;
+            goes = goes_then new.store.control.grain w (agenda_of new.store.control.grain old.script) (agenda_of new.store.control.grain script) (agenda_of new.store.control.grain new.script)
+                (subst (λ (z : GrainSize). GoesOn z w (agenda_of z old.script) (agenda_of z script)) (sym s.grain) (goes_there w least at)) s.goes;
+          }
+
+      logs_behind : Logs seen may_leave w least before on_script new after → Logs seen may_leave w least before old new after
+      logs_behind l =
+          record {
+            entry = l.entry;
+            next = l.next;
+            least_next = l.least_next;
+            room = l.room;
+            pushed = l.pushed;
+            live = l.live;
+            grain = l.grain;
+            asking = l.asking;
+            reached = goes_then g w (agenda_of g old.script) (agenda_of g script) (agenda_of g l.asking) (goes_there w least at) l.reached;
+            answer = l.answer;
+            left = l.left;
+            at = l.at;
+          }
+
+      on_behind : (more : Bool) → GoesOnTo seen may_leave more w least on_script before new after → GoesOnTo seen may_leave more w least old before new after
+      on_behind false o = (stays_behind o.0, o.1)
+      on_behind true (inl s) = inl (stays_behind s)
+      on_behind true (inr l) = inr (logs_behind l)
+
+      found_behind : (lanes : List LaneView) (named : ℕ) (image : MetaImage) → MayBeRecovered g script named lanes w least image → MayBeRecovered g old.script named lanes w least image
+      found_behind lanes named image m = may_be_behind g old.script script named lanes w least image (goes_there w least at) m
+
+      moment_behind : (c : List ℕ) → LeavesRecoverable on_script new w least c → LeavesRecoverable old new w least c
+      moment_behind c l = (l.0, l.1, λ lanes may. found_behind lanes old.named l.0 (l.2 lanes may))
+
+      stopped_behind : (result : Result Bool NotedStop) → Stopped seen may_leave moment left_since result on_script new before after w least → Stopped seen may_leave moment left_since result old new before after w least
+      stopped_behind result (inl s) =
+          inl (s.0, record { volumes = s.1.volumes; leaves = λ c may. let l = s.1.leaves c may in (l.0, l.1, found_behind new.store.lanes new.named l.0 l.2) })
+      stopped_behind result (inr s) =
+          let h = s.1 in
+          inr (s.0, record { entry = h.entry; next = h.next; least = h.least; room = h.room; pushed = h.pushed; right = h.right; volumes = h.volumes; found = h.found })
+
+    made_by : (result : Result Bool NotedStop) (new : Noted C D) (after : HistoryState) → StepMade seen may_leave moment left_since result on_script new before after → StepMade seen may_leave moment left_since result old new before after
+    made_by (Ok more) new after s =
+        record {
+          on = λ w least at. on_behind new after w least at more (s.on w least (script_is_at w least at));
+          any_moment = λ w least at.
+              weaker moment left_since old.meta.disk new.meta.disk (LeavesRecoverable on_script new w least) (LeavesRecoverable old new w least) (moment_behind new after w least at) (s.any_moment w least (script_is_at w least at));
+          stopped = tt;
+          full = s.full;
+        }
+    made_by (Err stop) new after s =
+        record {
+          on = tt;
+          any_moment = λ w least at.
+              weaker moment left_since old.meta.disk new.meta.disk (LeavesRecoverable on_script new w least) (LeavesRecoverable old new w least) (moment_behind new after w least at) (s.any_moment w least (script_is_at w least at));
+          stopped = λ w least at. stopped_behind new after w least at (Err stop) (s.stopped w least (script_is_at w least at));
+          full = s.full;
+        }
+
+    pub made_behind : (result : Result Bool NotedStop) (new : Noted C D) (after : HistoryState) → StepMade seen may_leave moment left_since result (record old { script = script }) new before after →
+        StepMade seen may_leave moment left_since result old new before after
+    made_behind result new after s =
+        let s' : StepMade seen may_leave moment left_since result on_script new before after = s in
+        made_by result new after s'
+
+    -- nothing is left
+    pub nothing_next : (live : old.live ≡ true) (room : length before.entries ≤ 262144) → ((w : Whole) → StandsFor old.store w → IsNext old.store.control.grain w None (agenda_of old.store.control.grain script)) →
+        StepMade seen may_leave moment left_since (Ok false) old (record old { script = script }) before before
+    nothing_next live room none =
+        record {
+          on = λ w least at.
+              let h = at_rest seen may_leave old before w least idle at in
+              (record { same = refl; live = live; grain = refl; at = script_is_at w least at; goes = goes_there w least at }, none w h.told.0);
+          any_moment = λ w least at.
+              let h = at_rest seen may_leave old before w least idle at in
+              let few : w.entries ≤ 262144 = subst (λ (k : ℕ). k ≤ 262144) (sym h.told.1.entries) room in
+              let m = resting_found seen may_leave old before w least h few in
+              still_leaves seen may_leave moment left_since only_now old on_script w least h.keeps.image refl h.keeps.says h.keeps.rests.durable
+              (hold_either old.store old.store old.script old.named w least h.keeps.image refl m m);
+          stopped = tt;
+          full = λ f. absurd cc;
+        }
+
+  -- memory was wanted, and nothing is said of the script
+  pub wanted_next : (room : length before.entries ≤ 262144) → StepMade seen may_leave moment left_since (Err WantsMemory) old (record old { script = script }) before before
+  wanted_next room =
+      record {
+        on = tt;
+        any_moment = λ w least at.
+            let h = at_rest seen may_leave old before w least idle at in
+            let few : w.entries ≤ 262144 = subst (λ (k : ℕ). k ≤ 262144) (sym h.told.1.entries) room in
+            let m = resting_found seen may_leave old before w least h few in
+            still_leaves seen may_leave moment left_since only_now old on_script w least h.keeps.image refl h.keeps.says h.keeps.rests.durable
+            (hold_either old.store old.store old.script old.named w least h.keeps.image refl m m);
+        stopped = λ w least at.
+            let h = at_rest seen may_leave old before w least idle at in
+            let few : w.entries ≤ 262144 = subst (λ (k : ℕ). k ≤ 262144) (sym h.told.1.entries) room in
+            inl (refl, record { volumes = h.keeps.volumes; leaves = λ c may. (h.keeps.image, ap recovered (h.keeps.rests.durable c may) ∙ h.keeps.says, resting_found seen may_leave old before w least h few) });
+        full = λ f. absurd cc;
+      }

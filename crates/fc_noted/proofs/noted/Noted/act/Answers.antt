@@ -1,0 +1,152 @@
+-- The decision is made ready and done, and metadata is made anew.
+use Rattle.std.proofs.Common.{◌≡◌, Bool, List, ℕ, Some, None, is_some, inl, inr, refl, sym, ap, subst, ◌∙◌}
+use Rattle.fc_base.specs.declared.ids.VolId.{VolId}
+use Rattle.fc_stands.specs.Store.{StoreView}
+use Rattle.fc_meta.specs.States.{disk_of, found}
+use Rattle.law_noted.specs.Records.{removed_by}
+use Rattle.fc_noted.proofs.Acting.{about_image, acted_image, acted_on, always_true, by_image, first_true, none_gone, on_error, stayed, still_there}
+use Rattle.fc_noted.specs.Making.{AnewOr, HasActed, HasStayed, IsImageAfter, LeavesAnew}
+use Rattle.fc_noted.proofs.noted.Noted.act.Goals as goal
+
+-- ---- nothing is done yet
+
+pub returns-in_err-reserve_all-clause-any_moment : goal.returns-in_err-reserve_all-clause-any_moment
+returns-in_err-reserve_all-clause-any_moment g c =
+    still_there g.M.MetaDisk.seen g.M.MetaDisk.may_leave g.M.MetaDisk.moment g.M.MetaDisk.left_since g.met.M.MetaDisk.only_now c.args.self.now.meta
+    (LeavesAnew g.M.MetaDisk.seen g.M.MetaDisk.may_leave c.args.decision.now c.args.self.now) c.requires.rests (λ x e. inl e)
+
+pub returns-in_err-image-clause-any_moment : goal.returns-in_err-image-clause-any_moment
+returns-in_err-image-clause-any_moment g c =
+    still_there g.M.MetaDisk.seen g.M.MetaDisk.may_leave g.M.MetaDisk.moment g.M.MetaDisk.left_since g.met.M.MetaDisk.only_now c.args.self.now.meta
+    (LeavesAnew g.M.MetaDisk.seen g.M.MetaDisk.may_leave c.args.decision.now c.args.self.now) c.requires.rests (λ x e. inl e)
+
+pub returns-in_err-image-2-clause-any_moment : goal.returns-in_err-image-2-clause-any_moment
+returns-in_err-image-2-clause-any_moment g c =
+    still_there g.M.MetaDisk.seen g.M.MetaDisk.may_leave g.M.MetaDisk.moment g.M.MetaDisk.left_since g.met.M.MetaDisk.only_now c.args.self.now.meta
+    (LeavesAnew g.M.MetaDisk.seen g.M.MetaDisk.may_leave c.args.decision.now c.args.self.now) c.requires.rests (λ x e. inl e)
+
+pub returns-else-has_action-clause-any_moment : goal.returns-else-has_action-clause-any_moment
+returns-else-has_action-clause-any_moment g c =
+    still_there g.M.MetaDisk.seen g.M.MetaDisk.may_leave g.M.MetaDisk.moment g.M.MetaDisk.left_since g.met.M.MetaDisk.only_now c.args.self.now.meta
+    (LeavesAnew g.M.MetaDisk.seen g.M.MetaDisk.may_leave c.args.decision.now c.args.self.now) c.requires.rests (λ x e. inl e)
+
+-- ---- a volume goes
+
+pub make_anew-requires-clause-ids : goal.make_anew-requires-clause-ids
+make_anew-requires-clause-ids g c =
+    c.requires.good c.in_ok-image.image
+    (about_image c.args.self.now.store c.reserve_all.new.self c.args.decision.now c.in-Some.volume c.control.result.now c.all_lanes.result.now c.in_ok-image.image c.reserve_all.ensures.reserved
+    (sym c.removed_by.ensures ∙ c.in-Some.is) c.control.ensures c.all_lanes.ensures c.in_ok-image.ensures)
+
+pub returns-in_err-make_anew-clause-undone : goal.returns-in_err-make_anew-clause-undone
+returns-in_err-make_anew-clause-undone g c =
+    on_error c.from_residual-in_err-make_anew.result _
+    (inl (subst (HasStayed c.args.self.now.store) (sym (ap (λ n. n.store) c.make_anew.ensures.others)) (stayed c.args.self.now.store c.reserve_all.new.self c.reserve_all.ensures.reserved)))
+
+pub returns-in_err-make_anew-clause-any_moment : goal.returns-in_err-make_anew-clause-any_moment
+returns-in_err-make_anew-clause-any_moment g c =
+    let after : IsImageAfter c.args.self.now.store c.args.decision.now c.in_ok-image.image =
+    about_image c.args.self.now.store c.reserve_all.new.self c.args.decision.now c.in-Some.volume c.control.result.now c.all_lanes.result.now c.in_ok-image.image c.reserve_all.ensures.reserved
+    (sym c.removed_by.ensures ∙ c.in-Some.is) c.control.ensures c.all_lanes.ensures c.in_ok-image.ensures in
+    by_image g.M.MetaDisk.seen g.M.MetaDisk.may_leave g.M.MetaDisk.moment g.M.MetaDisk.left_since (disk_of c.args.self.now.meta) (disk_of c.make_anew.new.self.meta) (found g.M.MetaDisk.seen c.args.self.now.meta) c.in_ok-image.image
+    (LeavesAnew g.M.MetaDisk.seen g.M.MetaDisk.may_leave c.args.decision.now c.args.self.now) (λ x e. inl e) (λ x e. inr (c.in_ok-image.image, e, after)) c.make_anew.ensures.any_moment
+
+pub returns-in-Some-clause-done : goal.returns-in-Some-clause-done
+returns-in-Some-clause-done g c =
+    acted_on c.args.self.now.store c.reserve_all.new.self c.make_anew.new.self.store c.apply_all.new.self c.args.decision.now c.reserve_all.ensures.reserved (ap (λ n. n.store) c.make_anew.ensures.others) c.apply_all.ensures.done
+
+pub returns-in-Some-clause-any_moment : goal.returns-in-Some-clause-any_moment
+returns-in-Some-clause-any_moment g c =
+    let after : IsImageAfter c.args.self.now.store c.args.decision.now c.in_ok-image.image =
+    about_image c.args.self.now.store c.reserve_all.new.self c.args.decision.now c.in-Some.volume c.control.result.now c.all_lanes.result.now c.in_ok-image.image c.reserve_all.ensures.reserved
+    (sym c.removed_by.ensures ∙ c.in-Some.is) c.control.ensures c.all_lanes.ensures c.in_ok-image.ensures in
+    by_image g.M.MetaDisk.seen g.M.MetaDisk.may_leave g.M.MetaDisk.moment g.M.MetaDisk.left_since (disk_of c.args.self.now.meta) (disk_of c.make_anew.new.self.meta) (found g.M.MetaDisk.seen c.args.self.now.meta) c.in_ok-image.image
+    (LeavesAnew g.M.MetaDisk.seen g.M.MetaDisk.may_leave c.args.decision.now c.args.self.now) (λ x e. inl e) (λ x e. inr (c.in_ok-image.image, e, after)) c.make_anew.ensures.any_moment
+
+pub returns-in-Some-clause-anew : goal.returns-in-Some-clause-anew
+returns-in-Some-clause-anew g c =
+    let gone : removed_by c.args.decision.now.events ≡ Some c.in-Some.volume = sym c.removed_by.ensures ∙ c.in-Some.is in
+    let after : IsImageAfter c.args.self.now.store c.args.decision.now c.in_ok-image.image =
+    about_image c.args.self.now.store c.reserve_all.new.self c.args.decision.now c.in-Some.volume c.control.result.now c.all_lanes.result.now c.in_ok-image.image c.reserve_all.ensures.reserved
+    gone c.control.ensures c.all_lanes.ensures c.in_ok-image.ensures in
+    subst (λ (b : Bool). AnewOr g.M.MetaDisk.seen g.M.MetaDisk.may_leave b c.args.decision.now c.args.self.now (record c.make_anew.new.self { store = c.apply_all.new.self }))
+    (sym (always_true c.args.has_action (is_some (removed_by c.args.decision.now.events)) (ap is_some gone)))
+    (record {
+      rests = c.in_ok-make_anew.ensures.rests;
+      image = c.in_ok-image.image;
+      found_is = c.in_ok-make_anew.ensures.found;
+      after = after;
+      named = c.in_ok-make_anew.ensures.named.0;
+      unmarked = c.in_ok-make_anew.ensures.named.1;
+    })
+
+-- ---- or none goes
+
+pub returns-in_err-image-2-clause-undone : goal.returns-in_err-image-2-clause-undone
+returns-in_err-image-2-clause-undone g c =
+    on_error c.from_residual-in_err-image-2.result _
+    (inr (
+      acted_on c.args.self.now.store c.reserve_all.new.self c.reserve_all.new.self c.apply_all-2.new.self c.args.decision.now c.reserve_all.ensures.reserved refl c.apply_all-2.ensures.done,
+      sym c.removed_by.ensures ∙ none_gone c.removed_by.result c.in_default.not-Some,
+    ))
+
+pub make_anew-requires-then-has_action-clause-ids : goal.make_anew-requires-then-has_action-clause-ids
+make_anew-requires-then-has_action-clause-ids g c =
+    c.requires.good c.in_ok-image-2.image
+    (acted_image c.args.self.now.store c.apply_all-2.new.self c.args.decision.now c.control-then-has_action.result.now c.all_lanes-then-has_action.result.now c.in_ok-image-2.image
+    (acted_on c.args.self.now.store c.reserve_all.new.self c.reserve_all.new.self c.apply_all-2.new.self c.args.decision.now c.reserve_all.ensures.reserved refl c.apply_all-2.ensures.done)
+    (sym c.removed_by.ensures ∙ none_gone c.removed_by.result c.in_default.not-Some) c.control-then-has_action.ensures c.all_lanes-then-has_action.ensures c.in_ok-image-2.ensures)
+
+pub returns-in_err-make_anew-2-clause-undone : goal.returns-in_err-make_anew-2-clause-undone
+returns-in_err-make_anew-2-clause-undone g c =
+    let done : HasActed c.args.decision.now c.args.self.now.store c.apply_all-2.new.self =
+    acted_on c.args.self.now.store c.reserve_all.new.self c.reserve_all.new.self c.apply_all-2.new.self c.args.decision.now c.reserve_all.ensures.reserved refl c.apply_all-2.ensures.done in
+    on_error c.from_residual-in_err-make_anew-2.result _
+    (inr (
+      subst (HasActed c.args.decision.now c.args.self.now.store) (sym (ap (λ n. n.store) c.make_anew-then-has_action.ensures.others)) done,
+      sym c.removed_by.ensures ∙ none_gone c.removed_by.result c.in_default.not-Some,
+    ))
+
+pub returns-in_err-make_anew-2-clause-any_moment : goal.returns-in_err-make_anew-2-clause-any_moment
+returns-in_err-make_anew-2-clause-any_moment g c =
+    let after : IsImageAfter c.args.self.now.store c.args.decision.now c.in_ok-image-2.image =
+    acted_image c.args.self.now.store c.apply_all-2.new.self c.args.decision.now c.control-then-has_action.result.now c.all_lanes-then-has_action.result.now c.in_ok-image-2.image
+    (acted_on c.args.self.now.store c.reserve_all.new.self c.reserve_all.new.self c.apply_all-2.new.self c.args.decision.now c.reserve_all.ensures.reserved refl c.apply_all-2.ensures.done)
+    (sym c.removed_by.ensures ∙ none_gone c.removed_by.result c.in_default.not-Some) c.control-then-has_action.ensures c.all_lanes-then-has_action.ensures c.in_ok-image-2.ensures in
+    by_image g.M.MetaDisk.seen g.M.MetaDisk.may_leave g.M.MetaDisk.moment g.M.MetaDisk.left_since (disk_of c.args.self.now.meta) (disk_of c.make_anew-then-has_action.new.self.meta) (found g.M.MetaDisk.seen c.args.self.now.meta)
+    c.in_ok-image-2.image (LeavesAnew g.M.MetaDisk.seen g.M.MetaDisk.may_leave c.args.decision.now c.args.self.now) (λ x e. inl e) (λ x e. inr (c.in_ok-image-2.image, e, after)) c.make_anew-then-has_action.ensures.any_moment
+
+pub returns-in_ok-make_anew-2-clause-any_moment : goal.returns-in_ok-make_anew-2-clause-any_moment
+returns-in_ok-make_anew-2-clause-any_moment g c =
+    let after : IsImageAfter c.args.self.now.store c.args.decision.now c.in_ok-image-2.image =
+    acted_image c.args.self.now.store c.apply_all-2.new.self c.args.decision.now c.control-then-has_action.result.now c.all_lanes-then-has_action.result.now c.in_ok-image-2.image
+    (acted_on c.args.self.now.store c.reserve_all.new.self c.reserve_all.new.self c.apply_all-2.new.self c.args.decision.now c.reserve_all.ensures.reserved refl c.apply_all-2.ensures.done)
+    (sym c.removed_by.ensures ∙ none_gone c.removed_by.result c.in_default.not-Some) c.control-then-has_action.ensures c.all_lanes-then-has_action.ensures c.in_ok-image-2.ensures in
+    by_image g.M.MetaDisk.seen g.M.MetaDisk.may_leave g.M.MetaDisk.moment g.M.MetaDisk.left_since (disk_of c.args.self.now.meta) (disk_of c.make_anew-then-has_action.new.self.meta) (found g.M.MetaDisk.seen c.args.self.now.meta)
+    c.in_ok-image-2.image (LeavesAnew g.M.MetaDisk.seen g.M.MetaDisk.may_leave c.args.decision.now c.args.self.now) (λ x e. inl e) (λ x e. inr (c.in_ok-image-2.image, e, after)) c.make_anew-then-has_action.ensures.any_moment
+
+pub returns-in_ok-make_anew-2-clause-done : goal.returns-in_ok-make_anew-2-clause-done
+returns-in_ok-make_anew-2-clause-done g c =
+    subst (HasActed c.args.decision.now c.args.self.now.store) (sym (ap (λ n. n.store) c.make_anew-then-has_action.ensures.others))
+    (acted_on c.args.self.now.store c.reserve_all.new.self c.reserve_all.new.self c.apply_all-2.new.self c.args.decision.now c.reserve_all.ensures.reserved refl c.apply_all-2.ensures.done)
+
+pub returns-in_ok-make_anew-2-clause-anew : goal.returns-in_ok-make_anew-2-clause-anew
+returns-in_ok-make_anew-2-clause-anew g c =
+    let after : IsImageAfter c.args.self.now.store c.args.decision.now c.in_ok-image-2.image =
+    acted_image c.args.self.now.store c.apply_all-2.new.self c.args.decision.now c.control-then-has_action.result.now c.all_lanes-then-has_action.result.now c.in_ok-image-2.image
+    (acted_on c.args.self.now.store c.reserve_all.new.self c.reserve_all.new.self c.apply_all-2.new.self c.args.decision.now c.reserve_all.ensures.reserved refl c.apply_all-2.ensures.done)
+    (sym c.removed_by.ensures ∙ none_gone c.removed_by.result c.in_default.not-Some) c.control-then-has_action.ensures c.all_lanes-then-has_action.ensures c.in_ok-image-2.ensures in
+    subst (λ (b : Bool). AnewOr g.M.MetaDisk.seen g.M.MetaDisk.may_leave b c.args.decision.now c.args.self.now c.make_anew-then-has_action.new.self)
+    (sym (first_true c.args.has_action (is_some (removed_by c.args.decision.now.events)) c.if-has_action.true))
+    (record {
+      rests = c.in_ok-make_anew-2.ensures.rests;
+      image = c.in_ok-image-2.image;
+      found_is = c.in_ok-make_anew-2.ensures.found;
+      after = after;
+      named = c.in_ok-make_anew-2.ensures.named.0;
+      unmarked = c.in_ok-make_anew-2.ensures.named.1;
+    })
+
+pub returns-else-has_action-clause-done : goal.returns-else-has_action-clause-done
+returns-else-has_action-clause-done g c =
+    acted_on c.args.self.now.store c.reserve_all.new.self c.reserve_all.new.self c.apply_all-2.new.self c.args.decision.now c.reserve_all.ensures.reserved refl c.apply_all-2.ensures.done

@@ -1,0 +1,36 @@
+-- The write is marked, and is next; or it is made, where no mark is wanted.
+use Rattle.std.proofs.Common.{ap, ◌∙◌}
+use Rattle.std.specs.Prelude.{Err}
+use Rattle.std.proofs.lemmas.Result.{err_from_is_err_and}
+use Rattle.fc_diff.specs.State.{ChangesState}
+use Rattle.fc_lane.specs.Lane.{LaneView}
+use Rattle.fc_marks.specs.declared.error.NotedStop.{NotedStop}
+use Rattle.fc_marks.specs.declared.error.NotedStop.TheVariants.{NoMemory as WantsMemory}
+use Rattle.fc_noted.proofs.Data.{seen_lane}
+use Rattle.fc_noted.proofs.Marked.{mark_failed, mark_made_by, mark_refused, wants_is}
+use Rattle.fc_noted.proofs.noted.Noted.own.Goals as goal
+
+pub returns-in_err-remember-clause-made : goal.returns-in_err-remember-clause-made
+returns-in_err-remember-clause-made g c history =
+    let p = err_from_is_err_and c.from_residual.result c.from_residual.ensures.1 in
+    mark_refused g.M.MetaDisk.seen g.M.MetaDisk.may_leave g.M.MetaDisk.moment g.M.MetaDisk.left_since g.met.M.MetaDisk.only_now c.args.self.now c.args.way c.remember.new.marks c.from_residual.result p.0 WantsMemory p.1 p.2 (λ e. absurd cc) history
+
+pub returns-in_err-put_record-clause-made : goal.returns-in_err-put_record-clause-made
+returns-in_err-put_record-clause-made g c history =
+    let a = c.requires.at in
+    let seen = seen_lane g.M.MetaDisk.seen g.M.MetaDisk.may_leave c.args.self.now c.args.way a.2 a.0 a.1 a.3 c.requires.due c.all_lanes.result.now c.index-all_lanes-way.result c.all_lanes.ensures c.index-all_lanes-way.is in
+    let wants = wants_is c.rows-rows.result.now _ c.as_slice.result.now c.args.self.now.marks.items c.args.part.volume c.args.way.doing.steps.grain c.args.way.doing.steps.place c.wants_mark.result
+    (c.rows-rows.ensures ∙ (ap (λ (z : ChangesState). z.rows) c.changes.ensures ∙ ap (λ (v : LaneView). v.changes.rows) seen)) c.as_slice.ensures.value c.wants_mark.ensures c.if-not-wants_mark.false in
+    let p = err_from_is_err_and c.from_residual-in_err-put_record.result c.from_residual-in_err-put_record.ensures.1 in
+    mark_failed g.M.MetaDisk.seen g.M.MetaDisk.may_leave g.M.MetaDisk.moment g.M.MetaDisk.left_since g.met.M.MetaDisk.counts_now c.args.self.now c.args.way c.args.part c.requires.due c.requires.live c.requires.next wants
+    c.put_record.new.meta c.remember.new.marks c.in_ok-remember.ensures.ok c.in_err-put_record.ensures.any_moment
+    c.from_residual-in_err-put_record.result p.0 c.in_err-put_record.field-0.0 p.1 p.2 (λ e. c.in_err-put_record.ensures.not_log (ap (λ (z : NotedStop). Err z) e)) history
+
+pub returns-clause-made : goal.returns-clause-made
+returns-clause-made g c =
+    let a = c.requires.at in
+    let seen = seen_lane g.M.MetaDisk.seen g.M.MetaDisk.may_leave c.args.self.now c.args.way a.2 a.0 a.1 a.3 c.requires.due c.all_lanes.result.now c.index-all_lanes-way.result c.all_lanes.ensures c.index-all_lanes-way.is in
+    let wants = wants_is c.rows-rows.result.now _ c.as_slice.result.now c.args.self.now.marks.items c.args.part.volume c.args.way.doing.steps.grain c.args.way.doing.steps.place c.wants_mark.result
+    (c.rows-rows.ensures ∙ (ap (λ (z : ChangesState). z.rows) c.changes.ensures ∙ ap (λ (v : LaneView). v.changes.rows) seen)) c.as_slice.ensures.value c.wants_mark.ensures c.if-not-wants_mark.false in
+    mark_made_by g.M.MetaDisk.seen g.M.MetaDisk.may_leave g.M.MetaDisk.moment g.M.MetaDisk.left_since g.met.M.MetaDisk.counts_now c.args.self.now c.args.way c.args.part c.requires.due c.requires.live c.requires.next wants
+    c.put_record.new.meta c.remember.new.marks c.in_ok-remember.ensures.ok c.in_ok-put_record.ensures.any_moment c.in_ok-put_record.ensures.rests c.in_ok-put_record.ensures.found

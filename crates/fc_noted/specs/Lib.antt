@@ -1,0 +1,4 @@
+-- A noted store, to be read top to bottom.
+pub mod Noted
+pub mod Stopping
+pub mod Making

@@ -1,0 +1,177 @@
+-- What a step makes, and what it leaves.
+use Rattle.std.specs.Prelude.{◌+◌, ◌≡◌, ◌⊎◌, ℕ, ◌≤◌, ◌/◌, Bool, true, false, List, [], ◌∷◌, ◌++◌, length, Some, None, Result, Ok, Err, IfOk, OnErr, IsErrOf, Contains, map, ◌<◌}
+use Rattle.fc_base.specs.declared.decision.Decision.{Decision}
+use Rattle.fc_base.specs.declared.ids.VolId.{VolId}
+use Rattle.fc_base.specs.declared.size.GrainSize.{GrainSize}
+use Rattle.fc_base.specs.declared.volume.Volume.{Volume}
+use Rattle.fc_changed.specs.Row.{Row}
+use Rattle.fc_entry.specs.HistoryState.{HistoryState}
+use Rattle.fc_entry.specs.declared.entry.Entry.{Entry}
+use Rattle.fc_format.specs.Halves.{Image, recovered}
+use Rattle.fc_image.specs.declared.image.MetaImage.{MetaImage}
+use Rattle.fc_kept.specs.Disks.{NamedDisk}
+use Rattle.fc_imaging.specs.Imaging.{kept_of, lost_grains}
+use Rattle.fc_imaging.specs.Without.{without}
+use Rattle.fc_kept.specs.Images.{kept_in, meta_of}
+use Rattle.fc_kept.specs.Recoverable.{Recoverable}
+use Rattle.fc_lane.specs.Lane.{IsSameLane}
+use Rattle.fc_lanes.specs.AllLanes.{EachLane}
+use Rattle.fc_legal.specs.Added.{IsTold}
+use Rattle.fc_legal.specs.Lawful.{IsLawful}
+use Rattle.fc_legal.specs.Steps.{Step, left_by}
+use Rattle.fc_legal.specs.Whole.{Whole}
+use Rattle.fc_meta.specs.States.{IsResting, found}
+use Rattle.fc_metadisk.specs.Disk.{LeavesOnly}
+use Rattle.fc_script.specs.Asking.{IsAnswer, IsLeft}
+use Rattle.fc_script.specs.declared.script.Script.{Script}
+use Rattle.fc_stands.specs.Phase.{StandsAt}
+use Rattle.fc_stands.specs.Store.{StandsFor, StoreView}
+use Rattle.law_crash.specs.Points.{Point}
+use Rattle.law_noted.specs.Records.{removed_by}
+use Rattle.law_noted.specs.Runs.{HasRun}
+use Rattle.fc_steps.specs.UnderWay.{next_of}
+use Rattle.fc_steps.specs.declared.stepping.Next.{Next}
+use Rattle.fc_steps.specs.declared.stepping.Next.TheVariants.{Own}
+use Rattle.fc_store.specs.Stepping.{lane_in}
+use Rattle.fc_held.specs.Held.{HaveVolumes, HoldAllOf}
+use Rattle.law_noted.specs.DataSteps.{Copies}
+use Rattle.fc_marks.specs.Marks.{is_open_any}
+use Rattle.fc_noted.specs.Noted.{GoesOnTo, IsAt, IsNotedAt, Keeps}
+use Rattle.fc_noted.specs.Stopping.{HasStopped, LeavesRecoverable}
+use Rattle.fc_marks.specs.declared.error.NotedStop.{NotedStop}
+use Rattle.fc_marks.specs.declared.error.NotedStop.TheVariants.{LogFull, NoMemory as WantsMemory}
+use Rattle.fc_noted.specs.declared.noted.Noted.{Noted}
+use Rattle.fc_noted.specs.declared.noted.UnderWay.{UnderWay}
+
+-- ---- what comes next of an entry
+
+-- A move that is next copies something.
+abbrev pub CopiesNext : {C D : Type 0} → Noted C D → UnderWay → Type 0
+CopiesNext n way = Copies (lane_in n.store way.place) way.doing.steps.place (next_of way.doing.steps)
+
+-- A write that is next is marked, where that is wanted.
+abbrev pub IsMarkedBy : {C D : Type 0} → Noted C D → UnderWay → Next → Type 0
+IsMarkedBy n way (Own part) =
+    is_open_any (lane_in n.store way.place).changes.rows n.marks.items part.volume way.doing.steps.grain way.doing.steps.place ≡ false
+IsMarkedBy n way next = Unit {0}
+
+abbrev pub IsMarkedNext : {C D : Type 0} → Noted C D → UnderWay → Type 0
+IsMarkedNext n way = IsMarkedBy n way (next_of way.doing.steps)
+
+-- ---- results
+
+-- That of a step that takes part of what is asked whenever it is made.
+abbrev pub always : Result (Unit {0}) NotedStop → Result Bool NotedStop
+always (Ok none) = Ok true
+always (Err stop) = Err stop
+
+-- That of a step that no error comes of.
+abbrev pub done : Result (Unit {0}) NotedStop
+done = Ok tt
+
+-- ---- behind an entry
+
+-- The script goes on behind an entry that answered what it asks, whatever a store stands for with it.
+abbrev pub GoesBehind : GrainSize → (Whole → Type 0) → Script → Entry → Script → Type 0
+GoesBehind grain Stands script entry new = (w next : Whole) → IsAnswer grain script w entry next → Stands next → IsLeft grain script w entry next new
+
+-- ---- an error behind an entry
+
+module _ {C D : Type 0} (seen : D → List ℕ) (may_leave : D → List ℕ → Type 0) (moment : D → ℕ) (left_since : D → ℕ → List ℕ → Type 0) where
+  -- An entry was logged, and memory was wanted behind it: what stands is what the history leads to with it.
+  pub record HasStoppedBehind (old new : Noted C D) (before after : HistoryState) (w : Whole) : Type 0 where
+    pub entry : Entry
+    pub next : Whole
+    pub least : List Row
+    pub room : length before.entries < 262144
+    pub pushed : after ≡ record before { entries = before.entries ++ entry ∷ [] }
+    pub right : Step old.store.control.grain w entry next
+    pub volumes : HaveVolumes new.disks new.store
+    pub found : (c : List ℕ) → may_leave new.meta.disk c →
+        (image : MetaImage) × (recovered c ≡ Image image)
+        × ((back : List (List NamedDisk)) → HoldAllOf new.named new.store.lanes back → Recoverable old.store.control.grain back (kept_in image) next least None None)
+
+  abbrev pub Stopped : Result Bool NotedStop → Noted C D → Noted C D → HistoryState → HistoryState → Whole → List Row → Type 0
+  Stopped result old new before after w least =
+      ((after ≡ before) × HasStopped may_leave old new w least)
+      ⊎ (IsErrOf result WantsMemory × HasStoppedBehind old new before after w)
+
+  -- ---- a step
+
+  -- On Ok it goes on. At any moment, and behind an error, what a stop leaves may be recovered.
+  pub record StepMade (result : Result Bool NotedStop) (old new : Noted C D) (before after : HistoryState) : Type 0 where
+    pub on : IfOk result (λ more. (w : Whole) (least : List Row) → IsAt seen may_leave old before w least → GoesOnTo seen may_leave more w least old before new after)
+    pub any_moment : (w : Whole) (least : List Row) → IsAt seen may_leave old before w least →
+        LeavesOnly moment left_since old.meta.disk new.meta.disk (LeavesRecoverable old new w least)
+    pub stopped : OnErr result ((w : Whole) (least : List Row) → IsAt seen may_leave old before w least → Stopped result old new before after w least)
+    pub full : IsErrOf result LogFull → 262144 ≤ length before.entries
+
+  -- The same of an entry that was taken out of the noted store.
+  abbrev pub WayMade : Result (Unit {0}) NotedStop → Noted C D → UnderWay → Noted C D → HistoryState → HistoryState → Type 0
+  WayMade result old way new before after = StepMade (always result) (record old { under_way = Some way }) new before after
+
+-- ---- a command
+
+-- Each lane stays the lane that it is, and the store stands for what it did; or for what a decision leaves.
+pub record HasStayed (old new : StoreView) : Type 0 where
+  pub grain : new.control.grain ≡ old.control.grain
+  pub lanes : EachLane IsSameLane old.lanes new.lanes
+  pub stands : (decisions : ℕ) (w : Whole) → StandsAt decisions old w → StandsAt decisions new w
+
+pub record HasActed (d : Decision) (old new : StoreView) : Type 0 where
+  pub grain : new.control.grain ≡ old.control.grain
+  pub lanes : EachLane IsSameLane old.lanes new.lanes
+  pub stands : (decisions : ℕ) (w : Whole) → StandsAt decisions old w → IsLawful old.control.grain decisions w d → StandsAt (decisions + 1) new (left_by old.control.grain w d)
+
+-- An image of what a store stands for; and one without a volume.
+abbrev pub told_by : StoreView → Whole → MetaImage
+told_by s w = meta_of (kept_of w (lost_grains s.lanes w.books.tables.volumes))
+
+abbrev pub IsImageOf : StoreView → MetaImage → Type 0
+IsImageOf s image = (w : Whole) → StandsFor s w → image ≡ told_by s w
+
+abbrev pub IsImageWithout : VolId → StoreView → MetaImage → Type 0
+IsImageWithout gone s image = (w : Whole) → StandsFor s w → image ≡ without gone (told_by s w)
+
+-- What metadata becomes by a decision: an image of the store that did it; or, where a volume goes, one without it of the store that is about to.
+pub data IsImageAfter (s : StoreView) (d : Decision) (image : MetaImage) : Type 0 where
+  acted : (new : StoreView) → HasActed d s new → removed_by d.events ≡ None → IsImageOf new image → IsImageAfter s d image
+  about : (now : StoreView) (gone : VolId) → HasStayed s now → removed_by d.events ≡ Some gone → IsImageWithout gone now image → IsImageAfter s d image
+
+-- Behind an error the decision isn't done, or no volume went by it.
+abbrev pub MayHaveActed : Decision → StoreView → StoreView → Type 0
+MayHaveActed d old new = HasStayed old new ⊎ (HasActed d old new × (removed_by d.events ≡ None))
+
+module _ {C D : Type 0} (seen : D → List ℕ) (may_leave : D → List ℕ → Type 0) where
+  -- Metadata was made anew by what the decision leaves: no write is marked, and all volumes have names.
+  pub record IsAnew (d : Decision) (old new : Noted C D) : Type 0 where
+    pub rests : IsResting seen may_leave new.meta
+    pub image : MetaImage
+    pub found_is : found seen new.meta ≡ Image image
+    pub after : IsImageAfter old.store d image
+    pub named : new.named ≡ image.next_volume
+    pub unmarked : new.marks.items ≡ []
+
+  -- Where there is no action it stays.
+  abbrev pub AnewOr : Bool → Decision → Noted C D → Noted C D → Type 0
+  AnewOr true d old new = IsAnew d old new
+  AnewOr false d old new = (new.meta ≡ old.meta) × (new.named ≡ old.named) × (new.marks.items ≡ old.marks.items)
+
+  -- A crash meanwhile leaves what stood, or such an image.
+  abbrev pub LeavesAnew : Decision → Noted C D → List ℕ → Type 0
+  LeavesAnew d old c = (recovered c ≡ found seen old.meta) ⊎ ((image : MetaImage) × (recovered c ≡ Image image) × IsImageAfter old.store d image)
+
+  -- Between two entries, whatever the script goes on to ask.
+  pub record IsHeldAt (n : Noted C D) (history : HistoryState) (w : Whole) (least : List Row) : Type 0 where
+    pub idle : n.under_way ≡ None
+    pub told : IsTold (StandsFor n.store) history w
+    pub point : Point
+    pub run : HasRun n.store.control.grain history.entries w least point
+    pub keeps : Keeps seen may_leave n.store.control.grain n.meta n w None point
+
+  -- A command's entry leads on, once it is logged, to what the noted store then stands for.
+  abbrev pub LeadsOn : Noted C D → HistoryState → Entry → Noted C D → Type 0
+  LeadsOn old before entry new =
+      (w : Whole) (least : List Row) → IsNotedAt seen may_leave old before w least →
+      (next : Whole) × (least_next : List Row) × Step old.store.control.grain w (record entry { number = w.entries }) next
+      × IsHeldAt new (record before { entries = before.entries ++ (record entry { number = w.entries }) ∷ [] }) next least_next

@@ -1,0 +1,47 @@
+//! A line answered, step by step.
+
+ghost use Rattle.std.specs.Prelude.{◌≡◌, ◌≤◌, ◌∷◌, [], ℕ, List, Ok, OnErr, OnOk, length, true, false};
+ghost use Rattle.fc_agenda.specs.Goes.{GoesToEnd};
+ghost use Rattle.fc_blocks.specs.Segments.{single};
+ghost use Rattle.fc_changed.specs.Row.{Row};
+ghost use Rattle.fc_legal.specs.Added.{Adds};
+ghost use Rattle.fc_legal.specs.Agenda.{Reading, Session, session_rules};
+ghost use Rattle.fc_legal.specs.Whole.{Whole};
+ghost use Rattle.fc_noted.specs.Noted.{IsNotedAt};
+ghost use Rattle.fc_store.specs.Answering.{IsStoreLine};
+
+use crate::noted::Noted;
+use fc_base::command::Line;
+use fc_entry::history::History;
+use fc_marks::NotedStop;
+use fc_mdisk::mdisk::Mdisk;
+use fc_metadisk::MetaDisk;
+
+impl<D: Mdisk, M: MetaDisk> Noted<D, M> {
+    /// Answers a line as `Store::run_line` does, step by step. Behind an error, only the disks are of use.
+    ///
+    /// LogFull also where 2^64 - 1 steps didn't answer it.
+    pub fn run_line(&mut self, line: Line, history: &mut History) -> Result<(), NotedStop>
+        requires at { (w : Whole) × (least : List Row) × IsNotedAt M.seen M.may_leave self.old history.old w least }
+        requires live { self.old.live ≡ true }
+        requires room { length history.old.entries ≤ 262144 }
+        requires own { IsStoreLine self.old.store.control.tables line }
+        ensures answered { OnOk result ((read : Reading) (bytes : List ℕ) (w : Whole) (least : List Row) → read w.books bytes ≡ Ok line → IsNotedAt M.seen M.may_leave self.old history.old w least →
+            (next : Whole) × (least_next : List Row) × IsNotedAt M.seen M.may_leave self.new history.new next least_next
+            × Adds history.old history.new (λ more. GoesToEnd (session_rules self.old.store.control.grain read) (Session (single bytes ∷ [])) w more next)) }
+        ensures live { OnOk result (self.new.live ≡ true) }
+        ensures stopped { OnErr result (self.new.live ≡ false) }
+        ensures limit { length history.new.entries ≤ 262144 }
+    {
+        self.begin_line(line);
+        'steps: for _ in 0..u64::MAX {
+            match self.make_step(history) {
+                Ok(true) => {}
+                Ok(false) => return Ok(()),
+                Err(stop) => return Err(stop),
+            }
+        }
+        self.live = false;
+        Err(NotedStop::LogFull)
+    }
+}
