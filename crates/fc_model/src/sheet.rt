@@ -37,6 +37,13 @@ impl PlainSheet {
         }
     }
 
+    /// These slots, with so many births given. Takes no memory.
+    pub fn of(births: u64, slots: Vec<Slot>) -> PlainSheet
+        ensures { result ≡ record { births = births; slots = slots.items } }
+    {
+        PlainSheet { births, slots }
+    }
+
     /// Another sheet like it.
     pub fn copy(&self, alloc: Global) -> Result<PlainSheet, NoMemory>
         ensures { IfOk result (λ s. s ≡ self.now) }

@@ -1,0 +1,7 @@
+-- How lines are read here, what is written, and how a call ends.
+pub mod Reading
+pub mod Lines
+pub mod Text
+pub mod Far
+pub mod Ending
+pub mod Stopped
