@@ -1,20 +1,25 @@
--- How a line is read where metadata stands on a disk that stops: by the grammar, outside of blocks; a preset names no line.
+-- How a line is read where metadata stands on a disk that stops: by the grammar, where `together`, `actor`, `end` and `mkpreset` name no
+-- line.
 use Rattle.std.specs.Prelude.{ℕ, List, Result, Ok, Err}
 use Rattle.fc_base.specs.declared.command.Command.TheVariants.{Mkpreset}
 use Rattle.fc_base.specs.declared.command.Line.{Line}
-use Rattle.fc_base.specs.declared.command.Line.TheVariants.{Command}
+use Rattle.fc_base.specs.declared.command.Line.TheVariants.{Actor, Command, End, Together}
 use Rattle.fc_base.specs.declared.command.Scope.TheVariants.{Free}
 use Rattle.fc_base.specs.declared.fault.WordFault.{WordFault}
-use Rattle.fc_base.specs.declared.fault.WordFault.TheVariants.{UnknownCommand}
+use Rattle.fc_base.specs.declared.fault.WordFault.TheVariants.{NotInBlock, UnknownCommand}
 use Rattle.fc_legal.specs.Agenda.{Reading}
 use Rattle.fc_words.specs.Lines.{line_of}
 
-abbrev pub without_presets : Result Line WordFault → Result Line WordFault
-without_presets (Ok (Command (Mkpreset source preset name))) = Err UnknownCommand
-without_presets read = read
+abbrev pub without_blocks : Result Line WordFault → Result Line WordFault
+without_blocks (Ok (Command (Mkpreset source preset name))) = Err UnknownCommand
+without_blocks (Ok Together) = Err UnknownCommand
+without_blocks (Ok (Actor name role)) = Err UnknownCommand
+without_blocks (Ok End) = Err UnknownCommand
+without_blocks (Err NotInBlock) = Err UnknownCommand
+without_blocks read = read
 
 abbrev pub own_reading : List ℕ → Result Line WordFault
-own_reading line = without_presets (line_of Free line)
+own_reading line = without_blocks (line_of Free line)
 
 -- The books don't matter to it.
 unfoldable pub reading : Reading

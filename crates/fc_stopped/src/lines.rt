@@ -1,12 +1,12 @@
 //! A noted store answers the lines of a session.
 
-ghost use Rattle.std.specs.Prelude.{◌≡◌, ◌≤◌, List, Ok, IfOk, length, true, ℕ};
+ghost use Rattle.std.specs.Prelude.{◌≡◌, ◌≤◌, Err, List, Ok, IfOk, length, true, ℕ};
 ghost use Rattle.fc_blocks.specs.Reading.{script_line};
 ghost use Rattle.fc_changed.specs.Row.{Row};
 ghost use Rattle.fc_legal.specs.Whole.{Whole};
 ghost use Rattle.fc_noted.specs.Noted.{IsNotedAt};
 ghost use Rattle.fc_stopped.specs.Lines.{LineIsAnswered, Start, noted_runs, stop_told};
-ghost use Rattle.fc_stopped.specs.Reading.{own_reading, without_presets};
+ghost use Rattle.fc_stopped.specs.Reading.{own_reading, without_blocks};
 
 use fc_base::command::{Command, Line, Scope, ScriptLine};
 use fc_base::fault::WordFault;
@@ -33,13 +33,26 @@ pub(crate) struct NotedLines<D: Mdisk, M: MetaDisk> {
     pub stop: Option<NotedStop>,
 }
 
-/// A line as it is answered here: a preset names none.
-fn without_presets(line: Line) -> ScriptLine
-    ensures { result ≡ script_line (without_presets (Ok line)) }
+/// A line as it is answered here: presets and the lines of blocks name none.
+fn without_blocks(line: Line) -> ScriptLine
+    ensures { result ≡ script_line (without_blocks (Ok line)) }
 {
     match line {
-        Line::Command(Command::Mkpreset { .. }) => ScriptLine::Unread(WordFault::UnknownCommand),
+        Line::Command(Command::Mkpreset { .. })
+        | Line::Together
+        | Line::Actor { .. }
+        | Line::End => ScriptLine::Unread(WordFault::UnknownCommand),
         other => ScriptLine::Read(other),
+    }
+}
+
+/// The fault of a line as it is answered here: `actor` and `end` name no line.
+fn fault_of(fault: WordFault) -> WordFault
+    ensures { script_line (Err result) ≡ script_line (without_blocks (Err fault)) }
+{
+    match fault {
+        WordFault::NotInBlock => WordFault::UnknownCommand,
+        other => other,
     }
 }
 
@@ -48,8 +61,8 @@ fn read_own(alloc: Global, line: &[u8]) -> Result<ScriptLine, NoMemory>
     ensures { IfOk result (λ read. read ≡ script_line (own_reading line.now)) }
 {
     match read_line(alloc, line, Scope::Free) {
-        Ok(line) => Ok(without_presets(line)),
-        Err(WordRefused::Fault(fault)) => Ok(ScriptLine::Unread(fault)),
+        Ok(line) => Ok(without_blocks(line)),
+        Err(WordRefused::Fault(fault)) => Ok(ScriptLine::Unread(fault_of(fault))),
         Err(WordRefused::NoMemory) => Err(NoMemory),
     }
 }

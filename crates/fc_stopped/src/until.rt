@@ -11,6 +11,7 @@ ghost use Rattle.fc_mdisk.specs.Disk.{DiskState, IsFresh};
 ghost use Rattle.fc_metadisk.specs.Stop.{found_after, new_stop};
 ghost use Rattle.fc_noted.specs.Noted.{NoHistory};
 ghost use Rattle.fc_recovered.specs.Recovered.{CanRecover};
+ghost use Rattle.fc_run.specs.Takes.{EachGave};
 ghost use Rattle.fc_stopped.specs.Ending.{EndsUnopened, IsOpened, IsUnopened, StatePut, StatusWritten, TextEnds, TextPut, all_disks};
 ghost use Rattle.fc_recovery_text.specs.Recovering.{IsFoundGood, IsStateText, KeepKinds};
 ghost use Rattle.fc_stopped.specs.Far.{status_unwritten};
@@ -191,7 +192,7 @@ fn run_noted<D: Mdisk, S: Source, K: Sink>(
     requires stands { (old : List DiskState) × IsOpened call noted (first_told old) old }
     requires none { disks.old.items ≡ [] }
     requires room { (old : List DiskState) → IsOpened call noted (first_told old) old → length old ≤ vec_capacity disks.old }
-    ensures { (old : List DiskState) → IsOpened call noted (first_told old) old → StopEnds call
+    ensures ends { (old : List DiskState) → IsOpened call noted (first_told old) old → StopEnds call
         (record {
           status = result;
           source = S.meaning source.old;
@@ -202,6 +203,8 @@ fn run_noted<D: Mdisk, S: Source, K: Sink>(
           disks' = map D.meaning disks.new.items;
           history = history.new;
         }) }
+    ensures takes { EachGave (S.meaning source.old) (S.meaning source.new) }
+    ensures limit { length history.new.entries ≤ 262144 }
 {
     let mut lines = NotedLines {
         alloc,
@@ -244,7 +247,7 @@ pub fn run_over<D: Mdisk, S: Source, K: Sink>(
     requires fresh { All IsFresh (map D.meaning disks.old.items) }
     requires counted { 0 < call }
     requires zeros { (size : ℕ) × (meta ≡ new_stop size call) }
-    ensures { StopEnds call
+    ensures ends { StopEnds call
         (record {
           status = result;
           source = S.meaning source.old;
@@ -255,6 +258,8 @@ pub fn run_over<D: Mdisk, S: Source, K: Sink>(
           disks' = map D.meaning disks.new.items;
           history = history.new;
         }) }
+    ensures takes { EachGave (S.meaning source.old) (S.meaning source.new) }
+    ensures limit { length history.new.entries ≤ 262144 }
 {
     match add_main(alloc, history) {
         Ok(()) => {}
@@ -293,7 +298,7 @@ pub fn run_until<D: Mdisk, S: Source, K: Sink>(
     requires few { vec_len disks.old < 2 ^ 30 }
     requires fresh { All IsFresh (map D.meaning disks.old.items) }
     requires counted { 0 < call }
-    ensures { StopEnds call
+    ensures ends { StopEnds call
         (record {
           status = result;
           source = S.meaning source.old;
@@ -304,6 +309,8 @@ pub fn run_until<D: Mdisk, S: Source, K: Sink>(
           disks' = map D.meaning disks.new.items;
           history = history.new;
         }) }
+    ensures takes { EachGave (S.meaning source.old) (S.meaning source.new) }
+    ensures limit { length history.new.entries ≤ 262144 }
 {
     match StopMeta::new(alloc, META_BYTES, call) {
         Ok(meta) => run_over(alloc, call, meta, source, sink, disks, history),
