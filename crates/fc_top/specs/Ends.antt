@@ -9,6 +9,7 @@ use Rattle.fc_call.specs.declared.status.Status.TheVariants as status
 use Rattle.fc_gen.specs.Session.{session_text}
 use Rattle.fc_io.specs.Source.{SourceState}
 use Rattle.fc_run.specs.declared.form.Form.TheVariants.{Summary}
+use Rattle.fc_stopped.specs.Stopped.{StopEnds}
 use Rattle.fc_top.specs.PlainEnds.{PlainEnds}
 use Rattle.fc_top.specs.Traced.{run_form}
 use Rattle.fc_verdict.specs.CheckEnds.{CheckEnds}
@@ -44,10 +45,10 @@ pub record DrillEnds (number : ℕ) (call : Call) : Type 0 where
   pub closed : call.status ≢ status.Unended
   pub ends : PlainEnds Summary K64 (drill_source number) left call
 
--- `stop` isn't built, so no words ask for it.
+-- By what is asked for; of a run whose disk of metadata stops at a call, fc_stopped says how it ends.
 abbrev pub Ends : Option Asked → Call → Type 0
 Ends None call = AsksNothing call
 Ends (Some (Run options)) call = RunEnds options call
 Ends (Some (Drill number)) call = DrillEnds number call
 Ends (Some Check) call = CheckEnds call
-Ends (Some (Stop number)) call = ⊥
+Ends (Some (Stop number)) call = StopEnds number call

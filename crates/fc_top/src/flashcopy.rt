@@ -19,6 +19,7 @@ use fc_entry::history::History;
 use fc_io::sink::Sink;
 use fc_io::source::Source;
 use fc_mdisk::mdisk::Mdisk;
+use fc_stopped::run_until;
 use fc_verdict::check::run_check;
 use std::alloc::Global;
 use std::sync::Wait;
@@ -68,7 +69,7 @@ fn run_asked<R: Threads + Wait + Sync, S: Source, K: Sink, D: Mdisk + Send, G: G
         }
         Asked::Drill(number) => run_drill(rt, alloc, number, sink, disks, gate, history),
         Asked::Check => run_check(alloc, source, sink),
-        Asked::Stop(_) => unreachable!(),
+        Asked::Stop(call) => run_until(alloc, call, source, sink, disks, history),
     }
 }
 

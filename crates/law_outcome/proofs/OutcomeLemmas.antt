@@ -423,7 +423,7 @@ calls Check bytes call other alone alike has has_other one two =
     checks bytes call other alike.status alike.by_bytes one.ends two.ends
     (took_of bytes (checked.bytes ++ checked.past) call.source call.source' has checked.taken.gave)
     (took_of bytes (checked_other.bytes ++ checked_other.past) other.source other.source' has_other checked_other.taken.gave)
-calls (Stop number) bytes call other alone alike has has_other one two = absurd one.ends
+calls (Stop number) bytes call other alone alike has has_other one two = absurd alone
 
 pub outcome_law_holds : OutcomeLaw
 outcome_law_holds = record { sessions = sessions; calls = calls }

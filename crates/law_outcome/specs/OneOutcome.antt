@@ -5,7 +5,7 @@
 use Rattle.std.specs.Prelude.{◌≡◌, ℕ, Bool, true, false, List, [], ◌++◌, Some}
 use Rattle.std.specs.Bool.{OnFalse}
 use Rattle.fc_args.specs.declared.asked.Asked.{Asked}
-use Rattle.fc_args.specs.declared.asked.Asked.TheVariants.{Check, Drill, Run}
+use Rattle.fc_args.specs.declared.asked.Asked.TheVariants.{Check, Drill, Run, Stop}
 use Rattle.fc_base.specs.declared.limits.TheConstants.{LANES}
 use Rattle.fc_base.specs.declared.size.GrainSize.{GrainSize}
 use Rattle.fc_blocks.specs.Segments.{cut}
@@ -88,10 +88,11 @@ HasBytes (Drill number) bytes source = Unit {0}
 HasBytes _ bytes source = source.left ≡ Some bytes
 
 -- No block ends in the bytes of a run. The generated session of a drill has none in any case. A check makes no entry, and of its bytes
--- one verdict is right, whatever session stands behind their trace.
+-- one verdict is right, whatever session stands behind their trace. Of a disk of metadata that stops nothing is said.
 abbrev pub AsksNoBlock : Asked → List ℕ → Type 0
 AsksNoBlock (Drill number) bytes = Unit {0}
 AsksNoBlock Check bytes = Unit {0}
+AsksNoBlock (Stop number) bytes = ⊥
 AsksNoBlock _ bytes = HaveNoBlock bytes
 
 pub record OutcomeLaw : Type 0 where
