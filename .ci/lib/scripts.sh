@@ -110,7 +110,7 @@ words_of_script() {
         bad_words
         printf '%s\n' '--help me' '-h -h' 'help run' '--version 1' 'build now' 'show a b' 'show -x' 'show ../README' \
             'run - ' 'run a b' 'run --summary --summary' 'run --strict=1' 'try --grain 65' 'try 7 8' 'drill 7 --summary' \
-            'drill' 'show --grain 64' 'check a b' 'check --strict' 'check nofile' 'check examples' 'run nofile' 'run examples' \
+            'drill' 'show --grain 64' 'check a b' 'check --strict' 'stop 1 a b' 'stop 1 --strict' 'stop 1 nofile' 'check nofile' 'check examples' 'run nofile' 'run examples' \
             'try nofile'
     )
     build_tree
@@ -130,6 +130,9 @@ words_of_script() {
     holds "the trace that the program gets isn't the file's" cmp -s "$tree/taken" traces/one-mapping
     run_script check <traces/torn
     holds "the trace that the program gets isn't that of standard input" cmp -s "$tree/taken" traces/torn
+    run_script stop 4294967295 "$top/examples/two-grains"
+    is "the words of a stop" "stop 4294967295" "$(tail -n 1 -- "$tree/words")"
+    holds "the session that a stop gets isn't the file's" cmp -s "$tree/taken" examples/two-grains
 }
 
 # ---- help, the version, and the help text that is made of the program's words, where there is one
@@ -145,7 +148,7 @@ help_and_version() {
         run_script "$word"
         holds "bin/flashcopy $word isn't --help" cmp -s "$room/out" "$room/help"
     done
-    for word in show try run drill check build --version --grain --summary --explain --strict; do
+    for word in show try run drill check stop build --version --grain --summary --explain --strict; do
         holds "bin/flashcopy --help doesn't speak of $word" grep -qF -- "$word" "$room/help"
     done
     run_script --version

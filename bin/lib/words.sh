@@ -11,6 +11,8 @@ usage: flashcopy show [EXAMPLE]                a session beside the history that
        flashcopy drill N                       the generated session of a number below 2^64, a summary of its history
        flashcopy check [TRACE]                 whether each entry of a trace is right, and answers the session behind it, if
                                                there is one: its verdict, in one line
+       flashcopy stop K [SESSION]              runs a session whose disk of metadata fails at its write or sync K, from 1 to
+                                               4294967295, and prints what is recovered then (docs/MANUAL.md)
        flashcopy build                         proves and builds the program, and runs nothing
        flashcopy help, -h, --help              this text
        flashcopy --version                     the version, and the kit that the program was proved and built with
@@ -76,7 +78,7 @@ meaning() { # STATUS
     if [[ $task == check ]] && meaning_of_check "$1"; then return; fi
     case $1 in
         1) echo "the program ended with a status that it doesn't have" ;;
-        2) echo "usage: flashcopy run [--grain 64|256] [--trace] [SESSION], drill N or check [TRACE] (see --help)" ;;
+        2) echo "usage: flashcopy run [--grain 64|256] [--trace] [SESSION], drill N, check [TRACE] or stop K [SESSION] (see --help)" ;;
         3) echo "standard input failed; the lines that had ended were answered" ;;
         4) echo "standard output failed; it got a front of what was to be printed" ;;
         5) echo "memory was wanted and not had" ;;
@@ -95,7 +97,7 @@ meaning() { # STATUS
 }
 
 # Reads the words, and refuses what isn't in their grammar before anything is built or read. Sets
-#   task        run, try, drill, check, show, build, help or version
+#   task        run, try, drill, check, stop, show, build, help or version
 #   words       the words that the program gets
 #   grain       64 or 256
 #   session     the file of the session or trace, or nothing for standard input
@@ -114,6 +116,7 @@ read_words() { # WORD..
         show) read_show_words "$@" ;;
         drill) read_drill_words "$@" ;;
         check) read_check_words "$@" ;;
+        stop) read_stop_words "$@" ;;
         run | try) read_run_words "$@" ;;
         *) return 1 ;;
     esac
@@ -125,15 +128,28 @@ read_show_words() { # [EXAMPLE]
     example=${1-}
 }
 
-# A number of 1 to 20 digits below 2^64.
-read_drill_words() { # N
-    local greatest=18446744073709551615 number
-    (($# == 1)) && [[ $1 =~ ^[0-9]{1,20}$ ]] || return 1
-    number=00000000000000000000$1
+# Whether a word is a number of 1 to 20 digits that isn't greater than another of 20.
+is_number_to() { # GREATEST WORD
+    local number
+    [[ $2 =~ ^[0-9]{1,20}$ ]] || return 1
+    number=00000000000000000000$2
     number=${number: -20}
     # of as many digits each, the order of the texts is that of the numbers
-    printf '%s\n' "$number" "$greatest" | LC_ALL=C sort -c 2>/dev/null || return 1
+    printf '%s\n' "$number" "$1" | LC_ALL=C sort -c 2>/dev/null
+}
+
+# A number below 2^64.
+read_drill_words() { # N
+    (($# == 1)) && is_number_to 18446744073709551615 "$1" || return 1
     words=(drill "$1")
+}
+
+# A number from 1 to below 2^32, and the session.
+read_stop_words() { # K [SESSION]
+    (($# == 1 || $# == 2)) && is_number_to 00000000004294967295 "$1" && [[ ! $1 =~ ^0+$ ]] || return 1
+    (($# == 1)) || [[ -n $2 && $2 != -* ]] || return 1
+    session=${2-}
+    words=(stop "$1")
 }
 
 read_check_words() { # [TRACE]
