@@ -245,7 +245,7 @@ stops() {
     # presets and the lines of blocks name no line there
     run_program stop 100 < <(printf '%s\n' 'mkpreset -source A -type clone -name x' together 'actor a host' end)
     is "stop of lines that aren't there: status" 0 "$status"
-    is "lines that aren't there" 4 "$(grep -c ' main - -> unknown command$' "$room/out")"
+    is "lines that aren't there" 4 "$(grep -c ' main - -> refused unknown command$' "$room/out")"
     run_program stop 1 <"$room"
     is "stop, and standard input fails: status" 0 "$status"
     run_program stop 100 <"$room"
