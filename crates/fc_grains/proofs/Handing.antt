@@ -2,8 +2,12 @@
 use Rattle.std.proofs.Common.{◌≡◌, ℕ, zero, suc, Bool, true, false, List, [], ◌∷◌, ◌++◌, map, reverse, refl, sym, ◌∙◌, ap, arith}
 use Rattle.std.specs.List.{All}
 use Rattle.std.proofs.lemmas.List.{append_assoc, map-append, reverse-append}
+use Rattle.std.proofs.lemmas.List.Elements.{All-nil, All-push}
+use Rattle.fc_base.specs.Grain.{grain_bytes}
+use Rattle.fc_base.specs.declared.size.GrainSize.{GrainSize}
 use Rattle.fc_mdisk.specs.Disk.{DiskState, grain_at}
 use Rattle.fc_entry.specs.Picture.{Content, Bytes, Lost, content_at}
+use Rattle.fc_grains.specs.Grains.{HasWholeGrains}
 use Rattle.fc_grains.specs.Parts.{VolumeDiskState, IsWhole, content, contents, grains_of}
 use Rattle.fc_grains.specs.Volumes.{VolumeGrains, HoldAll, HoldsGrains}
 use Rattle.fc_grains.proofs.Contents.{length-contents}
@@ -51,6 +55,13 @@ hold_reverse (v ∷ vs) [] all = absurd all
 -- from the last to the first
 pub hold_back : (n : ℕ) (vs : List VolumeDiskState) → All (IsWhole n) vs → HoldAll (reverse (map grains_of vs)) (reverse (map (λ (v : VolumeDiskState). v.disk) vs))
 hold_back n vs all = hold_reverse (map grains_of vs) (map (λ (v : VolumeDiskState). v.disk) vs) (hold_all n vs all)
+
+-- with all their grains whole
+pub whole_back : (grain : GrainSize) (vs : List VolumeDiskState) → All (IsWhole (grain_bytes grain)) vs → All (HasWholeGrains grain) (reverse (map (λ (v : VolumeDiskState). v.disk) vs))
+whole_back grain [] all = All-nil (HasWholeGrains grain)
+whole_back grain (v ∷ vs) all =
+    rw (reverse-append (v.disk ∷ []) (map (λ (x : VolumeDiskState). x.disk) vs))
+    (All-push (HasWholeGrains grain) (reverse (map (λ (x : VolumeDiskState). x.disk) vs)) v.disk (whole_back grain vs (λ k d within. all (suc k) d (omega arith))) (all 0 v (omega arith)).whole)
 
 -- the last volume's disk is given next
 pub given_next : (given : List DiskState) (vs : List VolumeDiskState) (v : VolumeDiskState) (all : List DiskState)

@@ -16,7 +16,7 @@ use Rattle.fc_mdisk.specs.Disk.{DiskState, cleared}
 use Rattle.fc_mdisk.specs.Disks.{disk_at}
 use Rattle.fc_entry.specs.Picture.{Bytes, zeros}
 use Rattle.fc_grains.specs.Calls.{HasMade, HasReadied, HasRemoved}
-use Rattle.fc_grains.specs.Grains.{AreAllOf, GrainsState, IsUnarmed, by_kind, NewVolume, next_of, next_place, one_if_silent, opened, pool_of, silent_of, stopped}
+use Rattle.fc_grains.specs.Grains.{AreAllOf, GrainsState, HasWholeGrains, IsUnarmed, by_kind, NewVolume, next_of, next_place, one_if_silent, opened, pool_of, silent_of, stopped}
 use Rattle.fc_grains.specs.Kept.{AddUp, IsKept, all_disks, state_of}
 use Rattle.fc_grains.specs.Parts.{HasNoWrites, HasZeros, IsWhole, PoolState, SameDisks, VolumeDiskState, contents, disks_of, grains_of, left_of, new_of, reached_as}
 use Rattle.fc_grains.specs.Volumes.{VolumeGrains, HoldAll, HoldsGrains, HoldsNothing, without}
@@ -47,8 +47,8 @@ same_silent xs ys same = same (λ (d : DiskState). one_if_silent d.due)
 
 pub all_of : (state : GrainsState) (all given own : List DiskState) (sums : Sums) → SameDisks given all → state.disks ≡ pool_of all → state.silent ≡ silent_of all
     → state.calls ≡ sums.calls → state.faults ≡ sums.faults → state.write_faults ≡ sums.write_faults → AddUp all sums
-    → given ≡ own ++ (state.pooled ++ state.aside) → HoldAll (reverse state.volumes) own → All HoldsNothing state.aside → AreAllOf state given
-all_of state all given own sums same disks silent calls faults write_faults add_up order held empty =
+    → given ≡ own ++ (state.pooled ++ state.aside) → HoldAll (reverse state.volumes) own → All (HasWholeGrains state.grain) own → All HoldsNothing state.aside → AreAllOf state given
+all_of state all given own sums same disks silent calls faults write_faults add_up order held whole empty =
     let by : AddUp given sums = add_up_by given all sums same add_up in
     record {
       kinds = same_kinds given all same ∙ sym disks;
@@ -61,6 +61,7 @@ all_of state all given own sums same disks silent calls faults write_faults add_
       own = own;
       in_order = order;
       held = held;
+      whole = whole;
       empty = empty;
     }
 

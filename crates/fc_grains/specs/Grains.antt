@@ -1,5 +1,5 @@
 -- All that contracts see of the grains of a lane.
-use Rattle.std.specs.Prelude.{◌≡◌, ℕ, ◌+◌, ◌-◌, ◌≤◌, ◌^◌, min, Bool, not, List, [], ◌∷◌, ◌++◌, filter, replicate, reverse, count_by, Option, Some, None, IfSome}
+use Rattle.std.specs.Prelude.{◌≡◌, ℕ, ◌+◌, ◌-◌, ◌≤◌, ◌^◌, min, Bool, not, List, [], ◌∷◌, ◌++◌, filter, length, replicate, reverse, count_by, Option, Some, None, IfSome}
 use Rattle.std.specs.List.{All, sum_by}
 use Rattle.fc_base.specs.Grain.{grain_bytes}
 use Rattle.fc_base.specs.Pools.{Pool}
@@ -107,9 +107,13 @@ opened grain disks = record {
   write_faults = stopped (write_faults_of disks);
 }
 
+-- Every grain of the disk is a whole one.
+abbrev pub HasWholeGrains : GrainSize → DiskState → Type 0
+HasWholeGrains grain disk = All (λ (bytes : List ℕ). length bytes ≡ grain_bytes grain) disk.grains
+
 -- These disks are all that there are, with their counts: no fault is told that they didn't count. Those of the volumes come
--- first, from the last volume to the first, with the grains that they held; then those of the pool, as they were, and those
--- put aside, which hold no grain.
+-- first, from the last volume to the first, with the grains that they held, whole ones, also where they are lost; then those of the
+-- pool, as they were, and those put aside, which hold no grain.
 pub record AreAllOf (state : GrainsState) (disks : List DiskState) : Type 0 where
   pub kinds : pool_of disks ≡ state.disks
   pub silent : silent_of disks ≡ state.silent
@@ -121,4 +125,5 @@ pub record AreAllOf (state : GrainsState) (disks : List DiskState) : Type 0 wher
   pub own : List DiskState
   pub in_order : disks ≡ own ++ (state.pooled ++ state.aside)
   pub held : HoldAll (reverse state.volumes) own
+  pub whole : All (HasWholeGrains state.grain) own
   pub empty : All HoldsNothing state.aside

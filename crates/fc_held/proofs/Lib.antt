@@ -4,3 +4,4 @@ pub mod Holding
 pub mod Stepping
 -- The disks that a lane gives back, with their names.
 pub mod Naming
+pub mod Whole

@@ -3,12 +3,13 @@ use Rattle.std.proofs.Common.{◌≡◌, ℕ, zero, suc, ◌-◌, ◌<◌, ◌�
 use Rattle.std.specs.List.{All, AllZip}
 use Rattle.std.specs.Prelude.{ltb}
 use Rattle.std.proofs.lemmas.Grind.{reverse_onto}
+use Rattle.std.proofs.lemmas.List.Elements.{All-cons, All-map, All-nil}
 use Rattle.std.proofs.lemmas.List.{append-nil, append_assoc, get_or-reverse, length-map, length-reverse, map-append}
 use Rattle.std.proofs.lemmas.Option.{slice_get-get_or, slice_get_past}
 use Rattle.fc_base.specs.declared.ids.VolId.{VolId}
 use Rattle.fc_base.specs.declared.volume.Volume.{Volume}
 use Rattle.fc_decided.proofs.Lists.{in_cases, none_in}
-use Rattle.fc_grains.specs.Grains.{AreAllOf, GrainsState, pool_of}
+use Rattle.fc_grains.specs.Grains.{AreAllOf, GrainsState, HasWholeGrains, pool_of}
 use Rattle.fc_grains.specs.Volumes.{HoldAll, VolumeGrains}
 use Rattle.fc_kept.specs.Disks.{NamedDisk}
 use Rattle.fc_lane.specs.Lane.{LaneView}
@@ -82,6 +83,13 @@ held_named named (x ∷ xs) (v ∷ vs) (d ∷ own) e h =
     let rest : numbers_held xs ≡ numbers_of vs = cc in
     (record { name = ap (λ (i : VolId). cond (ltb i.0 named) (Some i) None) (sym same); holds = h.0 }, held_named named xs vs own rest h.1)
 
+whole_named : (P : DiskState → Type 0) (named : ℕ) (vs : List Volume) (ds : List DiskState) → All P ds → All (λ (d : NamedDisk). P d.disk) (with_names named vs ds)
+whole_named P named [] ds all = All-map (λ (d : NamedDisk). P d.disk) (with_name None) ds all
+whole_named P named (v ∷ vs) [] all = All-nil (λ (d : NamedDisk). P d.disk)
+whole_named P named (v ∷ vs) (d ∷ ds) all =
+    All-cons (λ (x : NamedDisk). P x.disk) (with_name (name_of named (Some v)) d) (with_names named vs ds) (all 0 d (omega arith))
+    (whole_named P named vs ds (λ k x within. all (suc k) x (omega arith)))
+
 map_reverse : {X Y : Type 0} (f : X → Y) (xs : List X) → map f (reverse xs) ≡ reverse (map f xs)
 map_reverse f [] = refl
 map_reverse f (x ∷ xs) =
@@ -123,6 +131,7 @@ lane_held named volumes g disks back e all has =
           e
           ∙ (ap (with_names named (reverse volumes)) all.in_order ∙ parted named (reverse volumes) all.own (g.pooled ++ g.aside) count);
       held = held_named named (reverse g.volumes) (reverse volumes) all.own numbers all.held;
+      whole = whole_named (HasWholeGrains g.grain) named (reverse volumes) all.own all.whole;
       free = same_disks (g.pooled ++ g.aside);
       unnamed = without_names (g.pooled ++ g.aside);
       kinds = ap pool_of (ap (map (λ (d : NamedDisk). d.disk)) e ∙ named_disks named (reverse volumes) disks) ∙ all.kinds;

@@ -7,7 +7,7 @@ use Rattle.fc_base.specs.declared.ids.VolId.{VolId}
 use Rattle.fc_base.specs.declared.size.GrainSize.{GrainSize}
 use Rattle.fc_base.specs.declared.volume.Volume.{Volume}
 use Rattle.fc_entry.specs.Picture.{content_at}
-use Rattle.fc_grains.specs.Grains.{GrainsState, pool_of, total_of}
+use Rattle.fc_grains.specs.Grains.{GrainsState, HasWholeGrains, pool_of, total_of}
 use Rattle.fc_grains.specs.Volumes.{HoldsGrains, VolumeGrains, is_there, stored, volume_of}
 use Rattle.fc_kept.specs.Disks.{NamedDisk, disk_of, on_disk, is_free, is_kind}
 use Rattle.fc_kept.specs.Kept.{Kept, is_lost_in}
@@ -31,13 +31,14 @@ pub record HeldBy (named : ℕ) (v : VolumeGrains) (d : NamedDisk) : Type 0 wher
 abbrev pub HasNoName : NamedDisk → Type 0
 HasNoName d = d.volume ≡ None
 
--- The disks of the volumes, from the last to the first; then those of the pool, and those put aside, without a name. These are all that
--- the lane has, of each kind as many as it says.
+-- The disks of the volumes, from the last to the first, with whole grains; then those of the pool, and those put aside, without a name.
+-- These are all that the lane has, of each kind as many as it says.
 pub record HoldLane (named : ℕ) (g : GrainsState) (ds : List NamedDisk) : Type 0 where
   pub own : List NamedDisk
   pub rest : List NamedDisk
   pub in_order : ds ≡ own ++ rest
   pub held : AllZip (HeldBy named) (reverse g.volumes) own
+  pub whole : All (λ (d : NamedDisk). HasWholeGrains g.grain d.disk) own
   pub free : map (λ (d : NamedDisk). d.disk) rest ≡ g.pooled ++ g.aside
   pub unnamed : (d : NamedDisk) → Contains rest d → HasNoName d
   pub kinds : pool_of (map (λ (d : NamedDisk). d.disk) ds) ≡ g.disks

@@ -47,7 +47,7 @@ ready_same l volumes old new v g failed out r a =
       whole =
           subst (λ (ds : List NamedDisk). All (HasWholeGrains l.grain) ds) (sym r.is)
           (All-set (HasWholeGrains l.grain) old r.place (record (disk_in old r.place) { disk = r.disk })
-          (subst (λ (z : List (List ℕ)). All (λ (bytes : List ℕ). length bytes ≡ grain_bytes l.grain) z) (sym r.read.grains) (a.whole r.place no_disk r.there)) a.whole);
+          (λ named. subst (λ (z : List (List ℕ)). All (λ (bytes : List ℕ). length bytes ≡ grain_bytes l.grain) z) (sym r.read.grains) (a.whole r.place no_disk r.there named)) a.whole);
     }
 
 -- ---- among all lanes

@@ -101,7 +101,7 @@ has_after l t disks v p a w c =
 whole_after : (l : LaneOf) (v : Volume) (disks : List NamedDisk) (p : ℕ) → All (HasWholeGrains l.grain) disks → All (HasWholeGrains l.grain) (after l v disks p)
 whole_after l v disks p all =
     All-set (HasWholeGrains l.grain) disks p (given_to l v (disk_in disks p))
-    (All-replicate (λ (bytes : List ℕ). length bytes ≡ grain_bytes l.grain) (grains_in l v.grains) (replicate (grain_bytes l.grain) 0) (length-replicate (grain_bytes l.grain) 0)) all
+    (λ named. All-replicate (λ (bytes : List ℕ). length bytes ≡ grain_bytes l.grain) (grains_in l v.grains) (replicate (grain_bytes l.grain) 0) (length-replicate (grain_bytes l.grain) 0)) all
 
 stores_after : (l : LaneOf) (t : Tables) (disks : List NamedDisk) (v : Volume) (p : ℕ) → Lacking l t disks v p → StoreSame l t.volumes disks (after l v disks p)
 stores_after l t disks v p a w c g lt =

@@ -1,7 +1,7 @@
 -- A grain of a volume is read from the disk of its holder's volume.
 use Rattle.std.proofs.Common.{◌≡◌, ℕ, ◌/◌, ◌%◌, ◌<◌, ◌≤◌, Bool, true, false, cond, Option, Some, None, List, [], length, refl, sym, ap, subst, ◌∙◌, arith, Contains}
 use Rattle.std.specs.List.{flat_map}
-use Rattle.std.specs.Prelude.{◌==◌}
+use Rattle.std.specs.Prelude.{◌==◌, is_some}
 use Rattle.std.proofs.Math.Nat.{mod-lt}
 use Rattle.std.proofs.lemmas.Bool.{eqb-true}
 use Rattle.fc_base.specs.Column.{holder}
@@ -121,6 +121,16 @@ lost_shown grain image disks v number s some e =
 
 -- ---- the disk
 
+-- which is a volume's
+is_named : (v : ℕ) (d : NamedDisk) → is_of v d ≡ true → is_some d.volume ≡ true
+is_named v d e = by d.volume refl
+  where
+    by : (o : Option VolId) → d.volume ≡ o → is_some o ≡ true
+    by None n =
+        let no : false ≡ true = sym (ap (λ (o : Option VolId). is_of v (record { volume = o; disk = d.disk })) n) ∙ e in
+        absurd cc
+    by (Some id) n = refl
+
 -- its disk has the grain
 pub has_grain : (grain : GrainSize) (image : MetaImage) (disks : List (List NamedDisk)) (buffer : List ℕ) (v number : ℕ) → IsRecovered grain image disks buffer → (s : Source image v number) →
     HasDiskGrain (disks_at disks (number % length disks)) s.volume.id.0 (number / length disks) (length buffer)
@@ -133,13 +143,14 @@ has_grain grain image disks buffer v number i s =
     let within : place_of l number < grains_in l s.volume.grains = grain_below l nl number s.volume.grains refl s.inside in
     let count : length h.disk.disk.grains ≡ grains_in l s.volume.grains = h.grains in
     let below : place_of l number < length h.disk.disk.grains = omega arith in
-    let c = (find_from (is_of s.volume.id.0) (disks_at disks n) h.disk h.there).0 in
+    let found = find_from (is_of s.volume.id.0) (disks_at disks n) h.disk h.there in
+    let c = found.0 in
     let whole : HasWholeGrains grain h.disk = subst (HasWholeGrains grain) c.2 (ready.whole c.0 h.disk c.1) in
     record {
       disk = h.disk;
       there = h.there;
       within = below;
-      size = i.room ∙ sym (whole (place_of l number) [] below);
+      size = i.room ∙ sym (whole (is_named s.volume.id.0 h.disk found.1) (place_of l number) [] below);
     }
 
 -- and shows its bytes

@@ -1,5 +1,5 @@
 -- Which disk a volume gets that came back without one.
-use Rattle.std.specs.Prelude.{◌≡◌, ℕ, Bool, List, length, find, position, slice_set, Contains, All, Option, Some, None, is_none}
+use Rattle.std.specs.Prelude.{◌≡◌, ℕ, Bool, true, List, length, find, position, slice_set, Contains, All, Option, Some, None, is_none, is_some}
 use Rattle.fc_base.specs.Grain.{grain_bytes}
 use Rattle.fc_base.specs.declared.size.GrainSize.{GrainSize}
 use Rattle.fc_base.specs.declared.volume.Volume.{Volume}
@@ -38,9 +38,9 @@ readied l volumes disks = given l disks (find (is_diskless disks) volumes)
 
 -- ---- disks that are ready
 
--- Every grain of the disk is a whole one.
+-- Every grain of the disk is a whole one, if it is a volume's.
 abbrev pub HasWholeGrains : GrainSize → NamedDisk → Type 0
-HasWholeGrains grain disk = All (λ (bytes : List ℕ). length bytes ≡ grain_bytes grain) disk.disk.grains
+HasWholeGrains grain disk = is_some disk.volume ≡ true → All (λ (bytes : List ℕ). length bytes ≡ grain_bytes grain) disk.disk.grains
 
 -- The volume has a disk of its kind, with a grain for each of the volume's in this lane.
 pub record HasOwnDisk (l : LaneOf) (disks : List NamedDisk) (v : Volume) : Type 0 where
@@ -49,7 +49,7 @@ pub record HasOwnDisk (l : LaneOf) (disks : List NamedDisk) (v : Volume) : Type 
   pub kind : disk.disk.kind ≡ v.kind
   pub grains : length disk.disk.grains ≡ grains_in l v.grains
 
--- Each volume has one, and the grains of all disks are whole.
+-- Each volume has one, and the grains of all volumes' disks are whole.
 pub record AllHaveDisks (l : LaneOf) (volumes : List Volume) (disks : List NamedDisk) : Type 0 where
   pub each : (v : Volume) → Contains volumes v → HasOwnDisk l disks v
   pub whole : All (HasWholeGrains l.grain) disks

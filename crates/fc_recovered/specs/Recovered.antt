@@ -23,7 +23,7 @@ pub record RecoveredState : Type 0 where
   pub disks : List (List NamedDisk)
 
 -- Metadata and disks that may be read: the image is sound, there are lanes, which a u32 counts, and the disks of each lane fit the
--- tables, with whole grains.
+-- tables, with whole grains where they are volumes'.
 pub record CanRecover (grain : GrainSize) (image : MetaImage) (disks : List (List NamedDisk)) : Type 0 where
   pub sound : IsSoundImage image
   pub some : 0 < length disks

@@ -5,7 +5,7 @@ use Rattle.fc_mdisk.specs.Disk.{DiskState}
 use Rattle.fc_grains.specs.Grains.{GrainsState, AreAllOf, total_of}
 use Rattle.fc_grains.specs.Kept.{all_disks, state_of}
 use Rattle.fc_grains.specs.Parts.{QueuesState, SameDisks, VolumeDiskState, disks_in}
-use Rattle.fc_grains.proofs.Handing.{hold_back}
+use Rattle.fc_grains.proofs.Handing.{hold_back, whole_back}
 use Rattle.fc_grains.proofs.KindCounts.{total-pool}
 use Rattle.fc_grains.proofs.Moving.{all_of, number_of, on_err_at, same_given}
 use Rattle.fc_grains.proofs.Readying.{joined}
@@ -101,5 +101,6 @@ returns-clause-given g c =
       items,
       subst Q c.self.view_is
           (all_of state all (map m (first ++ (second ++ last))) own c.self.inside.sums same refl refl refl refl refl c.self.invariant.add_up order
-          (hold_back (grain_bytes c.self.inside.grain) c.self.inside.volumes.items c.self.invariant.whole) c.self.invariant.empty),
+          (hold_back (grain_bytes c.self.inside.grain) c.self.inside.volumes.items c.self.invariant.whole)
+          (whole_back c.self.inside.grain c.self.inside.volumes.items c.self.invariant.whole) c.self.invariant.empty),
     )
