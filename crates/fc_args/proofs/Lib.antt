@@ -10,3 +10,4 @@ mod RunLevel
 mod RunSteps
 mod NumberLevel
 mod ProgramLevel
+pub mod Counted

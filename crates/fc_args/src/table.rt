@@ -41,6 +41,7 @@ pub const CHECK_IS_BUILT: bool = true;
 pub const STOP_HELP: &str =
     "Run a session whose metadata disk fails at a call, and write what is recovered";
 /// The call of a `stop`.
-pub const STOP_CALL_HELP: &str = "The write or sync that fails, and every later one, from 1 to 4294967295";
+pub const STOP_CALL_HELP: &str =
+    "The write or sync that fails, and every later one, from 1 to 4294967295";
 /// Whether `stop` is built.
 pub const STOP_IS_BUILT: bool = true;

@@ -1,17 +1,19 @@
 -- The theorem, of a call by what it is asked for.
-use Rattle.std.proofs.Common.{◌≡◌, ◌≢◌, ◌≤◌, ◌⊎◌, ◌∙◌, true, length, ap, sym, refl, subst, arith, inr, Option, Some, None}
-use Rattle.std.proofs.lemmas.Bool.{false≢true}
+use Rattle.std.proofs.Common.{◌≡◌, ◌≢◌, ◌≤◌, ◌⊎◌, ◌∙◌, ℕ, true, length, ap, sym, refl, subst, arith, inr, Option, Some, None}
 use Rattle.fc_args.specs.Grammar.{is_offered}
 use Rattle.fc_args.specs.declared.asked.Asked.{Asked}
 use Rattle.fc_args.specs.declared.asked.Asked.TheVariants.{Run, Drill, Check, Stop}
 use Rattle.fc_base.specs.declared.size.GrainSize.TheVariants.{K64}
 use Rattle.fc_call.specs.Call.{Call, empty}
+use Rattle.fc_call.specs.declared.status.Status.{Status}
 use Rattle.fc_call.specs.declared.status.Status.TheVariants as status
 use Rattle.fc_entry.specs.HistoryState.{HistoryState}
 use Rattle.fc_io.specs.Source.{SourceState}
 use Rattle.fc_run.proofs.TakesLemmas.{EachGave-none}
 use Rattle.fc_run.specs.Takes.{EachGave}
 use Rattle.fc_run.specs.declared.form.Form.TheVariants.{Summary}
+use Rattle.fc_stopped.proofs.Starved.{starved_stop}
+use Rattle.fc_stopped.specs.Stopped.{EndsBy, StopEnds}
 use Rattle.fc_top.proofs.DrillLemmas.{drill_ends}
 use Rattle.fc_top.proofs.PlainLemmas.{starved_ends}
 use Rattle.fc_top.proofs.WordLemmas.{run-uncached}
@@ -19,6 +21,10 @@ use Rattle.fc_top.specs.Ends.{AsksNothing, Ends, drill_source}
 use Rattle.fc_top.specs.Traced.{run_form}
 use Rattle.fc_top.specs.Theorem.{Theorem}
 use Rattle.fc_verdict.proofs.CheckLemmas.{starved_check}
+
+-- A stop whose words are in the grammar isn't Usage.
+pub stop_ran : (number : ℕ) (call : Call) → StopEnds number call → call.status ≢ status.Usage
+stop_ran number call ends usage = subst (λ (s : Status). EndsBy number s call ends.last ends.bytes) usage ends.ends
 
 -- What is asked for was run.
 pub theorem_run :
@@ -93,7 +99,7 @@ starved (Drill number) call built is idle =
     drill_ends number source call idle.source (EachGave-none source)
     (starved_ends Summary K64 source source call is refl idle.sink (ap (λ (h : HistoryState). h.entries) idle.history) (inr idle.history))
 starved Check call built is idle = starved_check call is idle.source idle.sink idle.disks idle.history
-starved (Stop number) call built is idle = absurd (false≢true built)
+starved (Stop number) call built is idle = starved_stop number call is idle.source idle.sink idle.history
 
 -- Memory was wanted to read the words.
 pub theorem_starved :

@@ -1,6 +1,6 @@
 //! The top call.
 
-ghost use Rattle.std.specs.Prelude.{◌≡◌, ◌<◌, ◌^◌, true, Some, map, vec_len};
+ghost use Rattle.std.specs.Prelude.{◌≡◌, ◌<◌, ◌^◌, ℕ, true, Some, map, vec_len};
 ghost use Rattle.std.specs.List.{All};
 ghost use Rattle.fc_args.specs.Grammar.{asked_by, is_offered};
 ghost use Rattle.fc_call.specs.Call.{empty};
@@ -37,6 +37,7 @@ fn run_asked<R: Threads + Wait + Sync, S: Source, K: Sink, D: Mdisk + Send, G: G
     history: &mut History,
 ) -> Status
     requires built { is_offered asked ≡ true }
+    requires counted { (call : ℕ) → asked ≡ Asked.Stop call → 0 < call }
     requires empty { history.old ≡ empty }
     requires few { vec_len disks.old < 2 ^ 30 }
     requires fresh { All IsFresh (map D.meaning disks.old.items) }
@@ -113,7 +114,8 @@ pub type BoxedDisk = Box<dyn Mdisk + Send>;
 /// sink before more input is taken; or its trace, behind a first line that says what the store is made of. For a drill the session
 /// is the generated one of a number, the source isn't touched, and the summary of the history is written. For a check a trace is taken
 /// from the source, with the session behind it, if there is one, and judged; the line of its verdict is written, and the history stays
-/// empty.
+/// empty. For a stop the session is run with its metadata on a disk that fails at a call, and the entries that were answered, how far it
+/// came and what is recovered are written.
 ///
 /// The words are those of docs/MANUAL.md (fc_args' specs/Grammar). Where they aren't in the grammar the answer is Usage, or NoMemory
 /// where memory was wanted before that was known, and nothing is done. The history has to be empty, and the disks fresh: no calls,
@@ -121,7 +123,8 @@ pub type BoxedDisk = Box<dyn Mdisk + Send>;
 ///
 /// The main theorem (specs/Theorem) is all that is promised, for each answer: the history that is left is legal and has the
 /// actors that are told; by the answer it is known which bytes were taken, which of their lines the history answers, and what was
-/// written and sent on (specs/PlainEnds, and fc_run's specs/Headline; of a check fc_verdict's specs/CheckEnds); the disks come back as
+/// written and sent on (specs/PlainEnds, and fc_run's specs/Headline; of a check fc_verdict's specs/CheckEnds, of a stop fc_stopped's
+/// specs/Stopped); the disks come back as
 /// specs/DisksBack says; where no call failed and there is room it is done, and where no disk failed its accesses are answered, but
 /// for want of memory (specs/Complete). Two calls that ask for the same, and in which nothing failed, write the same, but for the
 /// faults that a trace tells (`law_outcome`). Each call of the source but the last gives a byte or more (fc_run's specs/Takes). The

@@ -1,5 +1,6 @@
 -- What the words ask for is run; or they ask for nothing, or memory was wanted to read them, and nothing is done.
-use Rattle.std.proofs.Common.{◌∙◌, ℕ, Option, List, Bor, inl, map, refl, sym, subst}
+use Rattle.std.proofs.Common.{◌∙◌, ℕ, Option, Some, List, Bor, inl, map, refl, sym, ap, subst}
+use Rattle.fc_args.proofs.Counted.{counted}
 use Rattle.fc_args.specs.Grammar.{asked_by}
 use Rattle.fc_args.specs.declared.asked.Asked.{Asked}
 use Rattle.fc_call.specs.Call.{Call}
@@ -15,6 +16,10 @@ texts = map (λ word. word.now)
 pub run_asked-requires-clause-built : goal.run_asked-requires-clause-built
 run_asked-requires-clause-built g c = λ κs within.
     asked-built (texts c.args.words.now) c.in-Ok-Some.asked (sym c.in-Ok-Some.ensures ∙ c.in-Ok-Some.field-0-is)
+
+pub run_asked-requires-clause-counted : goal.run_asked-requires-clause-counted
+run_asked-requires-clause-counted g c = λ κs within call stop.
+    counted (texts c.args.words.now) call (sym c.in-Ok-Some.ensures ∙ c.in-Ok-Some.field-0-is ∙ ap (λ (a : Asked). Some a) stop)
 
 pub returns-in-Ok-Some : goal.returns-in-Ok-Some
 returns-in-Ok-Some g c =

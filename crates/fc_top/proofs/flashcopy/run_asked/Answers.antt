@@ -2,10 +2,11 @@
 use Rattle.std.proofs.Common.{◌≡◌, ◌∙◌, true, ap, map, subst}
 use Rattle.fc_args.specs.Grammar.{is_offered}
 use Rattle.fc_args.specs.declared.asked.Asked.{Asked}
-use Rattle.fc_args.specs.declared.asked.Asked.TheVariants.{Run, Drill, Check}
+use Rattle.fc_args.specs.declared.asked.Asked.TheVariants.{Run, Drill, Check, Stop}
 use Rattle.fc_call.specs.Call.{Call}
 use Rattle.fc_run.proofs.TakesLemmas.{EachGave-none}
-use Rattle.fc_top.proofs.TheoremLemmas.{theorem_of}
+use Rattle.fc_stopped.specs.Stopped.{StopEnds}
+use Rattle.fc_top.proofs.TheoremLemmas.{stop_ran, theorem_of}
 use Rattle.fc_top.proofs.WordLemmas.{run-uncached}
 use Rattle.fc_run.specs.declared.form.Form.{Form}
 use Rattle.fc_top.specs.PlainEnds.{PlainEnds}
@@ -73,3 +74,21 @@ returns-in-Check g c =
     } in
     let ends : CheckEnds call = c.run_check.ensures disks c.args.history.now c.requires.empty in
     record { theorem = theorem_of c.args.asked Check call c.in-Check.is (check_ran call ends) (check_takes call ends) (check_few call ends) ends }
+
+pub run_until-requires-clause-counted : goal.run_until-requires-clause-counted
+run_until-requires-clause-counted g c = c.requires.counted c.in-Stop.call c.in-Stop.is
+
+pub returns-in-Stop : goal.returns-in-Stop
+returns-in-Stop g c =
+    let call : Call = record {
+      status = c.run_until.result;
+      source = g.S.Source.meaning c.args.source.now;
+      source' = g.S.Source.meaning c.run_until.new.source;
+      sink = g.K.Sink.meaning c.args.sink.now;
+      sink' = g.K.Sink.meaning c.run_until.new.sink;
+      disks = map g.D.Mdisk.meaning c.args.disks.now.items;
+      disks' = map g.D.Mdisk.meaning c.run_until.new.disks.items;
+      history = c.run_until.new.history;
+    } in
+    let ends : StopEnds c.in-Stop.call call = c.run_until.ensures.ends in
+    record { theorem = theorem_of c.args.asked (Stop c.in-Stop.call) call c.in-Stop.is (stop_ran c.in-Stop.call call ends) c.run_until.ensures.takes c.run_until.ensures.limit ends }
