@@ -26,13 +26,17 @@ use std::io;
 /// The disks of each kind.
 const DISKS: u32 = 40;
 
-/// What came of a session.
+/// The bytes of the disk of metadata.
+const BYTES: u32 = 65_536;
+
+/// The first call at which an image stands.
+const FIRST: u32 = 5;
+
+/// What came of a session: how many reads were compared, and how many entries it had at its last stop.
 #[derive(Clone, Copy)]
 struct Tally {
-    stops: u32,
     reads: u64,
     entries: usize,
-    full: bool,
 }
 
 /// Whether the whole call writes what is found.
@@ -122,7 +126,6 @@ fn run_stops(
     alloc: Global,
     session: &str,
     bytes: u32,
-    (first, step): (u32, u32),
     reference: &Reference,
 ) -> Result<Tally, (u32, Wrong)> {
     let mut plains = match Plains::new(alloc, reference) {
@@ -130,12 +133,10 @@ fn run_stops(
         Err(_) => return Err((0, Wrong::NoMemory)),
     };
     let mut tally = Tally {
-        stops: 0,
         reads: 0,
         entries: 0,
-        full: false,
     };
-    let mut call = first;
+    let mut call = FIRST;
     while call < 100_000 {
         let mut found = match stopped(alloc, session, DISKS, bytes, call) {
             Ok(found) => found,
@@ -154,15 +155,11 @@ fn run_stops(
             Ok(reads) => tally.reads = tally.reads.saturating_add(u64::from(reads)),
             Err(wrong) => return Err((call, wrong)),
         }
-        call = call.saturating_add(step);
+        call = call.saturating_add(1);
         tally.entries = found.history.len();
         match found.stop {
-            Some(NotedStop::MetaFailed) => tally.stops = tally.stops.saturating_add(1),
-            Some(_) => {
-                tally.full = true;
-                return Ok(tally);
-            }
-            None => return Ok(tally),
+            Some(NotedStop::MetaFailed) => {}
+            _ => return Ok(tally),
         }
     }
     Ok(tally)
@@ -226,51 +223,36 @@ fn print_found<R: Print>(
     Ok(())
 }
 
-/// Runs a session, and prints what came of it.
-pub fn run_text<R: Print>(
-    rt: &R,
-    alloc: Global,
-    number: u64,
-    session: &str,
-    bytes: u32,
-    calls: (u32, u32),
-) -> io::Result<()> {
-    let known = reference(alloc, session, DISKS)?;
+/// Runs the drawn session of a number, and prints what is wrong of it. Answers whether all is right.
+fn run_drawn<R: Print>(rt: &R, alloc: Global, number: u64) -> io::Result<bool> {
+    let session = drawn_session(alloc, number, number % 2 == 1)?;
+    let known = reference(alloc, session.as_str(), DISKS)?;
     if !known.same {
-        return println!(rt; "session {number}: the noted store has another history");
+        println!(rt; "session {number}: the noted store has another history")?;
+        return Ok(false);
     }
-    match run_stops(alloc, session, bytes, calls, &known) {
-        Ok(tally) => println!(rt;
-            "session {number}: {} entries of {}, {} stops, {} reads right{}",
-            tally.entries,
-            known.history.len(),
-            tally.stops,
-            tally.reads,
-            if tally.full { ", metadata full" } else { "" }
-        ),
+    match run_stops(alloc, session.as_str(), BYTES, &known) {
+        Ok(tally) => Ok(tally.entries == known.history.len() && tally.reads > 0),
         Err((call, wrong)) => {
             let (volume, grain) = place_of(wrong);
             println!(rt;
                 "session {number}: stop {call}: {} {volume} {grain}",
                 words(wrong)
             )?;
-            print_found(rt, alloc, session, bytes, call, &known)
+            print_found(rt, alloc, session.as_str(), BYTES, call, &known)?;
+            Ok(false)
         }
     }
 }
 
-/// Runs the sessions with these numbers, and prints what came of them.
-pub fn run_generated<R: Print>(
-    rt: &R,
-    alloc: Global,
-    from: u64,
-    to: u64,
-    bytes: u32,
-    calls: (u32, u32),
-) -> io::Result<()> {
+/// Runs the drawn sessions from this number up to that one, each stopped at every call of its disk of metadata, and prints what is wrong
+/// and how many are right.
+pub fn run_generated<R: Print>(rt: &R, alloc: Global, from: u64, to: u64) -> io::Result<()> {
+    let mut right: u64 = 0;
     for number in from..to {
-        let session = drawn_session(alloc, number, number % 2 == 1)?;
-        run_text(rt, alloc, number, session.as_str(), bytes, calls)?;
+        if run_drawn(rt, alloc, number)? {
+            right = right.saturating_add(1);
+        }
     }
-    Ok(())
+    println!(rt; "sessions from {from} to {to}: {right} right")
 }

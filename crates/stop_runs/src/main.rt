@@ -1,4 +1,11 @@
 //! Sessions that stop at each call of their disk of metadata.
+//!
+//! Without words the worked session is stopped at each of its calls, and what is written is printed; then some drawn sessions are run.
+//! With two numbers the drawn sessions from the first up to the second are run. Each is stopped at every call, recovered, and all that
+//! is read and reported is compared with plain volumes after the entries that were answered.
+//!
+//! In reading order: `worked`; `draws`, `drawn` (a session by its number), `reference` (what a session leads to, entry by entry), `stopped`
+//! (what a stop leaves), `images`, `judged` (what is compared), `generated`; `disks` and `texts` are what they share.
 #![tactic(auto)]
 
 mod disks;
@@ -12,11 +19,12 @@ mod stopped;
 mod texts;
 mod worked;
 
-use crate::drawn::drawn_session;
-use crate::generated::{run_generated, run_text};
-use crate::reference::reference;
-use crate::worked::{run_stop, run_worked};
+use crate::generated::run_generated;
+use crate::worked::run_worked;
 use std::{env, io};
+
+/// How many drawn sessions are run without words.
+const SESSIONS: u64 = 10;
 
 /// A number, or 0.
 fn number(word: Option<String>) -> u64 {
@@ -29,50 +37,11 @@ fn number(word: Option<String>) -> u64 {
 fn main(rt: HostRuntime) -> io::Result<()> {
     let alloc = rt.alloc();
     let mut words = env::args(&rt)?.skip(1);
-    let Some(part) = words.next() else {
-        return run_worked(&rt, alloc);
+    let Some(first) = words.next() else {
+        run_worked(&rt, alloc)?;
+        return run_generated(&rt, alloc, 0, SESSIONS);
     };
-    let from = number(words.next());
+    let from = number(Some(first));
     let to = number(words.next());
-    let bytes = u32::try_from(number(words.next())).unwrap_or(65_536);
-    let first = u32::try_from(number(words.next())).unwrap_or(5).max(5);
-    let step = u32::try_from(number(words.next())).unwrap_or(1).max(1);
-    let calls = (first, step);
-    match part.as_str() {
-        "generated" => run_generated(&rt, alloc, from, to, bytes, calls),
-        "text" => {
-            let mut session = String::new(alloc);
-            for line in rt.lines(alloc) {
-                let line = line?;
-                session.push_str(line.as_str())?;
-                session.push_str("\n")?;
-            }
-            if to == 1 {
-                let known = reference(alloc, session.as_str(), 40)?;
-                return rt.stdout().write_all(known.trace.as_slice());
-            }
-            run_text(&rt, alloc, from, session.as_str(), bytes, calls)
-        }
-        "stop" => {
-            let mut session = String::new(alloc);
-            for line in rt.lines(alloc) {
-                let line = line?;
-                session.push_str(line.as_str())?;
-                session.push_str("\n")?;
-            }
-            run_stop(
-                &rt,
-                alloc,
-                session.as_str(),
-                u32::try_from(from).unwrap_or(1),
-            )
-        }
-        "trace" => {
-            let session = drawn_session(alloc, from, from % 2 == 1)?;
-            println!(rt; "{}", session.as_str())?;
-            let known = reference(alloc, session.as_str(), 40)?;
-            rt.stdout().write_all(known.trace.as_slice())
-        }
-        _ => run_worked(&rt, alloc),
-    }
+    run_generated(&rt, alloc, from, to)
 }

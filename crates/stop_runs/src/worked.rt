@@ -5,7 +5,7 @@ use fc_entry::history::History;
 use fc_io::mem_sink::MemSink;
 use fc_io::mem_source::MemSource;
 use fc_metadisk::StopMeta;
-use fc_stopped::{run_over, run_until};
+use fc_stopped::run_over;
 use std::alloc::Global;
 use std::io;
 
@@ -42,22 +42,4 @@ pub fn run_worked(rt: &HostRuntime, alloc: Global) -> io::Result<()> {
         rt.stdout().write_all(sink.bytes())?;
     }
     Ok(())
-}
-
-/// Runs a session up to a call of a disk as large as the program's, and prints what is written.
-pub fn run_stop(rt: &HostRuntime, alloc: Global, session: &str, call: u32) -> io::Result<()> {
-    let bytes = Vec::from_slice(alloc, session.as_bytes())?;
-    let mut source = MemSource::new(bytes, 4096, Vec::new(alloc));
-    let mut sink = MemSink::new(alloc, Vec::new(alloc));
-    let mut history = History::new(alloc);
-    let mut disks = made_disks(alloc, 2048)?;
-    let _status = run_until(
-        alloc,
-        call,
-        &mut source,
-        &mut sink,
-        &mut disks,
-        &mut history,
-    );
-    rt.stdout().write_all(sink.bytes())
 }
