@@ -1,4 +1,4 @@
--- Texts put part by part: a read with its answer, and all that is said of an image.
+-- Texts put part by part: a request with its answer, and all that is said of an image.
 use Rattle.std.proofs.Common.{◌≡◌, ℕ, Bool, true, false, List, [], ◌∷◌, ◌++◌, Result, Ok, Err, codes, take, refl, sym, subst, append_assoc}
 use Rattle.std.specs.List.{concat}
 use Rattle.std.proofs.lemmas.List.{append-nil}
