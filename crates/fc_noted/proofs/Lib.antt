@@ -15,6 +15,7 @@ mod GoodIds
 mod Holding
 mod Idle
 mod InHand
+mod KeepingLanes
 mod Lines
 mod Marked
 mod Moments

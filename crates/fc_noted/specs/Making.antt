@@ -14,7 +14,7 @@ use Rattle.fc_imaging.specs.Imaging.{kept_of, lost_grains}
 use Rattle.fc_imaging.specs.Without.{without}
 use Rattle.fc_kept.specs.Images.{kept_in, meta_of}
 use Rattle.fc_kept.specs.Recoverable.{Recoverable}
-use Rattle.fc_lane.specs.Lane.{IsSameLane}
+use Rattle.fc_lane.specs.Lane.{IsSameLane, LaneView}
 use Rattle.fc_lanes.specs.AllLanes.{EachLane}
 use Rattle.fc_legal.specs.Added.{IsTold}
 use Rattle.fc_legal.specs.Lawful.{IsLawful}
@@ -109,6 +109,15 @@ module _ {C D : Type 0} (seen : D → List ℕ) (may_leave : D → List ℕ → 
   -- The same of an entry that was taken out of the noted store.
   abbrev pub WayMade : Result (Unit {0}) NotedStop → Noted C D → UnderWay → Noted C D → HistoryState → HistoryState → Type 0
   WayMade result old way new before after = StepMade (always result) (record old { under_way = Some way }) new before after
+
+-- ---- the disks of lanes
+
+-- Each lane has grains of its size, and as many disks of each kind.
+abbrev pub HasItsDisks : LaneView → LaneView → Type 0
+HasItsDisks old new = (new.grains.grain ≡ old.grains.grain) × (new.grains.disks ≡ old.grains.disks)
+
+abbrev pub KeepLanes : StoreView → StoreView → Type 0
+KeepLanes old new = EachLane HasItsDisks old.lanes new.lanes
 
 -- ---- a command
 

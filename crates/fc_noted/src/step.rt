@@ -5,7 +5,7 @@ ghost use Rattle.fc_changed.specs.Row.{Row};
 ghost use Rattle.fc_entry.specs.HistoryState.{HistoryState};
 ghost use Rattle.fc_entry.specs.declared.entry.Entry.{Entry as EntryLogged};
 ghost use Rattle.fc_legal.specs.Whole.{Whole};
-ghost use Rattle.fc_noted.specs.Making.{CopiesNext, GoesBehind, IsMarkedNext, StepMade, WayMade, done};
+ghost use Rattle.fc_noted.specs.Making.{CopiesNext, GoesBehind, IsMarkedNext, KeepLanes, StepMade, WayMade, done};
 ghost use Rattle.fc_noted.specs.Noted.{CanStep, IsDoing};
 ghost use Rattle.law_noted.specs.DataSteps.{copies_nothing};
 ghost use Rattle.law_noted.specs.Going.{marks_left, volume_noted};
@@ -104,6 +104,7 @@ impl<D: Mdisk, M: MetaDisk> Noted<D, M> {
         requires live { self.old.live ≡ true }
         requires room { length history.old.entries ≤ 262144 }
         ensures made { WayMade M.seen M.may_leave M.moment M.left_since result self.old way self.new history.old history.new }
+        ensures lanes { KeepLanes self.old.store self.new.store }
         ensures live { self.new.live ≡ self.old.live }
     {
         if let Some(record) = way.due {
@@ -122,6 +123,7 @@ impl<D: Mdisk, M: MetaDisk> Noted<D, M> {
         requires live { self.old.live ≡ true }
         requires due { way.due ≡ Some note }
         ensures made { (history : HistoryState) → WayMade M.seen M.may_leave M.moment M.left_since result self.old way self.new history history }
+        ensures lanes { KeepLanes self.old.store self.new.store }
         ensures live { self.new.live ≡ self.old.live }
     {
         put_record(self.alloc, &mut self.meta, note)?;
@@ -159,6 +161,7 @@ impl<D: Mdisk, M: MetaDisk> Noted<D, M> {
         requires due { way.due ≡ None }
         requires next { next_of way.doing.steps ≡ NextMove mv }
         ensures made { (history : HistoryState) → WayMade M.seen M.may_leave M.moment M.left_since result self.old way self.new history history }
+        ensures lanes { KeepLanes self.old.store self.new.store }
         ensures live { self.new.live ≡ self.old.live }
     {
         if !self.copies_nothing(&way, &mv) {
@@ -197,6 +200,7 @@ impl<D: Mdisk, M: MetaDisk> Noted<D, M> {
         requires due { way.due ≡ None }
         requires next { next_of way.doing.steps ≡ Own part }
         ensures made { (history : HistoryState) → WayMade M.seen M.may_leave M.moment M.left_since result self.old way self.new history history }
+        ensures lanes { KeepLanes self.old.store self.new.store }
         ensures live { self.new.live ≡ self.old.live }
     {
         let grain = way.doing.steps.grain;
@@ -226,6 +230,7 @@ impl<D: Mdisk, M: MetaDisk> Noted<D, M> {
         requires marked { IsMarkedNext self.old way }
         requires copies { CopiesNext self.old way }
         ensures made { (history : HistoryState) → WayMade M.seen M.may_leave M.moment M.left_since done self.old way self.new history history }
+        ensures lanes { KeepLanes self.old.store self.new.store }
         ensures live { self.new.live ≡ self.old.live }
     {
         let UnderWay {
@@ -248,6 +253,7 @@ impl<D: Mdisk, M: MetaDisk> Noted<D, M> {
         requires over { next_of way.doing.steps ≡ Over }
         requires taken { self.old.under_way ≡ None }
         ensures made { WayMade M.seen M.may_leave M.moment M.left_since result self.old way self.new history.old history.new }
+        ensures lanes { KeepLanes self.old.store self.new.store }
         ensures live { self.new.live ≡ self.old.live }
     {
         let UnderWay { place, doing, .. } = way;
