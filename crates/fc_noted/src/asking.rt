@@ -5,7 +5,7 @@ ghost use Rattle.fc_changed.specs.Row.{Row};
 ghost use Rattle.fc_lane.specs.declared.worker.Worker.TheVariants.{Cleaner, Copier};
 ghost use Rattle.fc_lanes.specs.declared.access.Access.TheVariants.{Write};
 ghost use Rattle.fc_legal.specs.Whole.{Whole};
-ghost use Rattle.fc_noted.specs.Making.{StepMade, always};
+ghost use Rattle.fc_noted.specs.Making.{KeepLanes, StepMade, always};
 ghost use Rattle.fc_noted.specs.Noted.{IsNotedAt};
 ghost use Rattle.fc_script.specs.Asking.{CanBeAsked, HasNextFill, IsNext, work_of};
 ghost use Rattle.fc_script.specs.Script.{agenda_of};
@@ -140,6 +140,7 @@ impl<D: Mdisk, M: MetaDisk> Noted<D, M> {
         requires can { CanBeAsked self.old.store (Asked.Fill map cleans grain) }
         requires fill { (w : Whole) → StandsFor self.old.store w → HasNextFill self.old.store.control.grain w (work_of self.old.script) (Asked.Fill map cleans grain) }
         ensures made { StepMade M.seen M.may_leave M.moment M.left_since (always result) self.old self.new history.old history.new }
+        ensures lanes { KeepLanes self.old.store self.new.store }
         ensures live { self.new.live ≡ self.old.live }
     {
         let place = self.store.ready_lane(grain.0, history)?;
