@@ -1,4 +1,5 @@
 -- Lemmas, one subject a file.
+mod Accessing
 mod Acting
 mod Alone
 mod Beginning
@@ -22,9 +23,12 @@ mod Moments
 mod Nexts
 mod Opening
 mod Putting
+mod Reading
+mod Refusing
 mod Resting
 mod Standing
 mod Stepping
+mod Still
+mod Telling
 mod Tidying
-mod Writing
 mod Commanding

@@ -1,9 +1,8 @@
 //! One step of what a line asks.
 
-ghost use Rattle.std.specs.Prelude.{◌≡◌, ◌≢◌, ◌<◌, ◌≤◌, ◌↔◌, List, [], ◌∷◌, ◌++◌, length, true, None, Some, IfErr, IsTrue, OnErr, OnOk};
+ghost use Rattle.std.specs.Prelude.{◌≡◌, ◌≢◌, ◌≤◌, ◌↔◌, List, [], ◌∷◌, ◌++◌, length, true, None, Some, IfErr, IsTrue, OnErr, OnOk};
 ghost use Rattle.fc_changed.specs.Row.{Row};
 ghost use Rattle.fc_entry.specs.HistoryState.{HistoryState};
-ghost use Rattle.fc_entry.specs.declared.entry.Entry.{Entry as EntryLogged};
 ghost use Rattle.fc_legal.specs.Whole.{Whole};
 ghost use Rattle.fc_noted.specs.Making.{CopiesNext, GoesBehind, IsMarkedNext, KeepLanes, StepMade, WayMade, done};
 ghost use Rattle.fc_noted.specs.Noted.{CanStep, IsDoing};
@@ -276,20 +275,6 @@ impl<D: Mdisk, M: MetaDisk> Noted<D, M> {
     {
         self.script.answered(&self.store, &entry)?;
         log(history, entry)?;
-        Ok(())
-    }
-
-    /// The script goes on behind the history's last entry.
-    pub(crate) fn go_behind(&mut self, history: &History) -> Result<(), NotedStop>
-        requires stands { (w : Whole) × StandsFor self.old.store w }
-        requires some { 0 < length history.now.entries }
-        ensures goes { OnOk result ((before : List EntryLogged) (entry : EntryLogged) → history.now.entries ≡ before ++ entry ∷ [] →
-            GoesBehind self.old.store.control.grain (StandsFor self.old.store) self.old.script entry self.new.script) }
-        ensures stop { IfErr result (λ stop. stop ≡ NotedStop.NoMemory) }
-        ensures others { self.new ≡ record self.old { script = self.new.script } }
-    {
-        self.script
-            .answered(&self.store, history.entry(history.len() - 1))?;
         Ok(())
     }
 }
