@@ -95,6 +95,7 @@ impl<D: Mdisk, M: MetaDisk> Noted<D, M> {
         requires can { CanBeAsked self.old.store asked }
         requires fill { (w : Whole) → StandsFor self.old.store w → HasNextFill self.old.store.control.grain w (work_of self.old.script) asked }
         ensures made { StepMade M.seen M.may_leave M.moment M.left_since (always result) self.old self.new history.old history.new }
+        ensures lanes { KeepLanes self.old.store self.new.store }
         ensures live { self.new.live ≡ self.old.live }
     {
         match asked {
@@ -127,6 +128,7 @@ impl<D: Mdisk, M: MetaDisk> Noted<D, M> {
         requires next { (w : Whole) → StandsFor self.old.store w → IsNext self.old.store.control.grain w (Some (Asked.Refused request refusal)) (agenda_of self.old.store.control.grain self.old.script) }
         requires can { CanBeAsked self.old.store (Asked.Refused request refusal) }
         ensures made { StepMade M.seen M.may_leave M.moment M.left_since (always result) self.old self.new history.old history.new }
+        ensures lanes { KeepLanes self.old.store self.new.store }
         ensures live { self.new.live ≡ self.old.live }
     {
         if is_full(history) {
@@ -152,6 +154,7 @@ impl<D: Mdisk, M: MetaDisk> Noted<D, M> {
         requires next { (w : Whole) → StandsFor self.old.store w → IsNext self.old.store.control.grain w (Some (Asked.Part Read volume block count grain)) (agenda_of self.old.store.control.grain self.old.script) }
         requires can { CanBeAsked self.old.store (Asked.Part Read volume block count grain) }
         ensures made { StepMade M.seen M.may_leave M.moment M.left_since (always result) self.old self.new history.old history.new }
+        ensures lanes { KeepLanes self.old.store self.new.store }
         ensures live { self.new.live ≡ self.old.live }
     {
         let place = self.store.ready_lane(grain, history)?;
@@ -187,6 +190,7 @@ impl<D: Mdisk, M: MetaDisk> Noted<D, M> {
         requires next { (w : Whole) → StandsFor self.old.store w → IsNext self.old.store.control.grain w (Some (Asked.Part (Write byte) volume block count grain)) (agenda_of self.old.store.control.grain self.old.script) }
         requires can { CanBeAsked self.old.store (Asked.Part (Write byte) volume block count grain) }
         ensures made { StepMade M.seen M.may_leave M.moment M.left_since (always result) self.old self.new history.old history.new }
+        ensures lanes { KeepLanes self.old.store self.new.store }
         ensures live { self.new.live ≡ self.old.live }
     {
         let place = self.store.ready_lane(grain, history)?;

@@ -17,7 +17,8 @@ use Rattle.fc_noted.proofs.Begun.{begun_made, stopped_made}
 use Rattle.fc_noted.proofs.Filling.{full_only}
 use Rattle.fc_noted.proofs.Holding.{one_same}
 use Rattle.fc_noted.proofs.Idle.{idle_made}
-use Rattle.fc_noted.specs.Making.{StepMade, always}
+use Rattle.fc_noted.proofs.KeepingLanes.{begun_keeps, holds_in_lane, lanes_go_on, lanes_hold, lanes_still}
+use Rattle.fc_noted.specs.Making.{KeepLanes, StepMade, always}
 use Rattle.fc_parts.specs.Law.{IsInVolume}
 use Rattle.fc_rules.specs.LaneRight.{done_write}
 use Rattle.fc_rules.specs.Steps.{HasDoneNothing}
@@ -142,3 +143,24 @@ returns-in-Answered-clause-made g c =
           (lane_of_grain w c.args.grain, subst (λ (z : ControlState). IsTurnBy z w) kept.control (answered_turn c.ready_lane.new.self w (kept.stands w h.told.0) c.args.grain place c.in_ok-place.ensures.ready c.args.volume c.args.block c.args.count c.blocks_in-first.result.0 c.blocks_in-first.result.1 touches within (Write c.args.byte) c.len.result entry store begun.0 is (omega (arith, nothing.calls)) (h.told.1.entries ∙ sym c.len.ensures)));
       asks = λ w up. subst (λ (r : Request). AsksIt old.store.control.grain r w) (access_by c.ready_lane.new.self.control.grain c.ready_lane.new.self.control.tables c.args.volume c.args.block c.args.count c.args.grain (touches_there c.args.self.now.store.control c.ready_lane.new.self.control c.args.volume c.args.block c.args.count c.args.grain c.ready_lane.ensures.kept.control c.requires.can) c.grain.result c.grain.ensures c.blocks_in-first.result.0 c.blocks_in-first.result.1 c.blocks_in-first.ensures.first c.blocks_in-first.ensures.count (Write c.args.byte) old.store.control.grain same) (c.requires.next w up);
     }) c.log_entry.ensures.logged c.log_entry.ensures.goes c.log_entry.ensures.unlogged c.log_entry.ensures.stop)
+
+pub returns-in_err-place-clause-lanes : goal.returns-in_err-place-clause-lanes
+returns-in_err-place-clause-lanes g c = lanes_hold c.args.self.now.store c.ready_lane.new.self c.ready_lane.ensures.kept.grains
+
+pub returns-in-UnderWay-clause-lanes : goal.returns-in-UnderWay-clause-lanes
+returns-in-UnderWay-clause-lanes g c =
+    let old = c.args.self.now.store in
+    let roomy = c.ready_lane.new.self in
+    let store = c.begin_write.new.self in
+    subst (λ n. KeepLanes c.args.self.now.store n.store) (sym c.take_up.ensures)
+    (lanes_go_on old roomy store (lanes_hold old roomy c.ready_lane.ensures.kept.grains) (begun_keeps c.in_ok-place.place roomy store c.in-UnderWay.doing c.in-UnderWay.ensures.others c.in-UnderWay.ensures.begun.way))
+
+pub returns-in-Answered-clause-lanes : goal.returns-in-Answered-clause-lanes
+returns-in-Answered-clause-lanes g c =
+    let old = c.args.self.now.store in
+    let roomy = c.ready_lane.new.self in
+    let store = c.begin_write.new.self in
+    lanes_go_on old store c.log_entry.new.self.store
+    (lanes_go_on old roomy store (lanes_hold old roomy c.ready_lane.ensures.kept.grains)
+    (holds_in_lane c.in_ok-place.place roomy store c.in-Answered.ensures.others (ap (λ (z : LaneView). z.grains) c.in-Answered.ensures.begun.1)))
+    (lanes_still store c.log_entry.new.self.store (ap (λ n. n.store) c.log_entry.ensures.others))

@@ -13,6 +13,7 @@ use Rattle.fc_marks.specs.Stops.{stop_of_log}
 use Rattle.fc_noted.proofs.Accessing.{access_by, access_can, begins_within, ends_within, in_grain, number_small, touches_there}
 use Rattle.fc_noted.proofs.Begun.{stopped_made}
 use Rattle.fc_noted.proofs.Filling.{full_only}
+use Rattle.fc_noted.proofs.KeepingLanes.{lanes_go_on, lanes_hold, lanes_still, stays_in_lane}
 use Rattle.fc_noted.proofs.Reading.{read_made, read_turn}
 use Rattle.fc_noted.specs.Making.{StepMade, always}
 use Rattle.fc_script.specs.Script.{agenda_of}
@@ -102,3 +103,15 @@ returns-clause-made g c =
     (access_by now.grain now.tables c.args.volume c.args.block c.args.count c.args.grain touches c.grain.result c.grain.ensures blocks.result.0 blocks.result.1 blocks.ensures.first blocks.ensures.count Read old.store.control.grain (ap (λ (z : ControlState). z.grain) kept.control))
     (c.requires.next w up))
     c.log_entry.ensures.logged c.log_entry.ensures.goes c.log_entry.ensures.unlogged c.log_entry.ensures.stop)
+
+pub returns-in_err-place-clause-lanes : goal.returns-in_err-place-clause-lanes
+returns-in_err-place-clause-lanes g c = lanes_hold c.args.self.now.store c.ready_lane.new.self c.ready_lane.ensures.kept.grains
+
+pub returns-clause-lanes : goal.returns-clause-lanes
+returns-clause-lanes g c =
+    let old = c.args.self.now.store in
+    let roomy = c.ready_lane.new.self in
+    let store = c.read_at-entry.new.store in
+    lanes_go_on old store c.log_entry.new.self.store
+    (lanes_go_on old roomy store (lanes_hold old roomy c.ready_lane.ensures.kept.grains) (stays_in_lane c.in_ok-place.place roomy store c.read_at-entry.ensures.others c.read_at-entry.ensures.followed.same))
+    (lanes_still store c.log_entry.new.self.store (ap (λ n. n.store) c.log_entry.ensures.others))

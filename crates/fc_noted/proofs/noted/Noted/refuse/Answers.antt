@@ -3,6 +3,7 @@ use Rattle.std.proofs.Common.{ap, refl, subst, sym}
 use Rattle.fc_entry.specs.declared.entry.Entry.{Entry}
 use Rattle.fc_marks.specs.declared.error.NotedStop.TheVariants.{LogFull}
 use Rattle.fc_noted.proofs.Begun.{stopped_made}
+use Rattle.fc_noted.proofs.KeepingLanes.{lanes_stay, lanes_still}
 use Rattle.fc_noted.proofs.Refusing.{refused_made}
 use Rattle.fc_noted.specs.Making.{StepMade, always}
 use Rattle.fc_noted.proofs.noted.Noted.refuse.Goals as goal
@@ -25,3 +26,9 @@ returns-clause-made g c =
     c.len.result c.args.request c.args.refusal (record c.refused_entry-entry.result { number = c.len.result }) c.log_entry.new.self.script c.log_entry.result c.log_entry.new.history c.len.ensures
     (ap (λ (e : Entry). record e { number = c.len.result }) c.refused_entry-entry.ensures) c.requires.can c.requires.next
     c.log_entry.ensures.logged c.log_entry.ensures.goes c.log_entry.ensures.unlogged c.log_entry.ensures.stop)
+
+pub returns-then-is_full-clause-lanes : goal.returns-then-is_full-clause-lanes
+returns-then-is_full-clause-lanes g c = lanes_stay c.args.self.now.store
+
+pub returns-clause-lanes : goal.returns-clause-lanes
+returns-clause-lanes g c = lanes_still c.args.self.now.store c.log_entry.new.self.store (ap (λ n. n.store) c.log_entry.ensures.others)
