@@ -13,6 +13,7 @@ mod Finishing
 mod Fitting
 mod GoingAlong
 mod GoodIds
+pub mod Halting
 mod Holding
 mod Idle
 mod InHand

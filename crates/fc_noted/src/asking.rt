@@ -1,6 +1,6 @@
 //! How the next entry of a line begins.
 
-ghost use Rattle.std.specs.Prelude.{◌≡◌, ◌<◌, ◌≤◌, ◌^◌, List, cond, length, true, None, Some};
+ghost use Rattle.std.specs.Prelude.{◌≡◌, ◌<◌, ◌≤◌, ◌^◌, IsErrOf, List, cond, length, true, None, Some};
 ghost use Rattle.fc_changed.specs.Row.{Row};
 ghost use Rattle.fc_entry.specs.Picture.{grain_of_block};
 ghost use Rattle.fc_follow.specs.Following.{Followed};
@@ -11,6 +11,7 @@ ghost use Rattle.fc_lanes.specs.declared.access.Access.TheVariants.{Read, Write}
 ghost use Rattle.fc_legal.specs.Whole.{Whole};
 ghost use Rattle.fc_noted.specs.Making.{KeepLanes, StepMade, always};
 ghost use Rattle.fc_noted.specs.Noted.{IsNotedAt};
+ghost use Rattle.fc_noted.specs.Stopping.{AsksSome};
 ghost use Rattle.fc_rules.specs.LaneFits.{FitsPart};
 ghost use Rattle.fc_script.specs.Asking.{CanBeAsked, HasNextFill, IsNext, work_of};
 ghost use Rattle.fc_script.specs.Script.{agenda_of};
@@ -76,6 +77,7 @@ impl<D: Mdisk, M: MetaDisk> Noted<D, M> {
         requires live { self.old.live ≡ true }
         requires room { length history.old.entries ≤ 262144 }
         ensures made { StepMade M.seen M.may_leave M.moment M.left_since result self.old self.new history.old history.new }
+        ensures full { IsErrOf result NotedStop.LogFull → (w : Whole) → StandsFor self.old.store w → AsksSome self.old.store.control.grain self.old.script w }
         ensures live { self.new.live ≡ self.old.live }
     {
         match self.script.next(&self.store)? {

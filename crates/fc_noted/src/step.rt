@@ -1,11 +1,12 @@
 //! One step of what a line asks.
 
-ghost use Rattle.std.specs.Prelude.{◌≡◌, ◌≢◌, ◌≤◌, ◌↔◌, List, [], ◌∷◌, ◌++◌, length, true, None, Some, IfErr, IsTrue, OnErr, OnOk};
+ghost use Rattle.std.specs.Prelude.{◌≡◌, ◌≢◌, ◌≤◌, ◌↔◌, List, [], ◌∷◌, ◌++◌, length, true, None, Some, IfErr, IsErrOf, IsTrue, OnErr, OnOk};
 ghost use Rattle.fc_changed.specs.Row.{Row};
 ghost use Rattle.fc_entry.specs.HistoryState.{HistoryState};
 ghost use Rattle.fc_legal.specs.Whole.{Whole};
 ghost use Rattle.fc_noted.specs.Making.{CopiesNext, GoesBehind, IsMarkedNext, KeepLanes, StepMade, WayMade, done};
-ghost use Rattle.fc_noted.specs.Noted.{CanStep, IsDoing};
+ghost use Rattle.fc_noted.specs.Noted.{CanStep, IsAt, IsDoing};
+ghost use Rattle.fc_noted.specs.Stopping.{AsksSome};
 ghost use Rattle.law_noted.specs.DataSteps.{copies_nothing};
 ghost use Rattle.law_noted.specs.Going.{marks_left, volume_noted};
 ghost use Rattle.law_noted.specs.Records.{record_after};
@@ -72,6 +73,7 @@ impl<D: Mdisk, M: MetaDisk> Noted<D, M> {
     pub fn make_step(&mut self, history: &mut History) -> Result<bool, NotedStop>
         requires can { CanStep M.seen M.may_leave self.old history.old }
         ensures made { StepMade M.seen M.may_leave M.moment M.left_since result self.old self.new history.old history.new }
+        ensures full { IsErrOf result NotedStop.LogFull → (w : Whole) (least : List Row) → IsAt M.seen M.may_leave self.old history.old w least → AsksSome self.old.store.control.grain self.old.script w }
         ensures live { IsTrue self.new.live ↔ OnErr result ⊥ }
     {
         let made = self.step(history);
@@ -85,6 +87,7 @@ impl<D: Mdisk, M: MetaDisk> Noted<D, M> {
     fn step(&mut self, history: &mut History) -> Result<bool, NotedStop>
         requires can { CanStep M.seen M.may_leave self.old history.old }
         ensures made { StepMade M.seen M.may_leave M.moment M.left_since result self.old self.new history.old history.new }
+        ensures full { IsErrOf result NotedStop.LogFull → (w : Whole) (least : List Row) → IsAt M.seen M.may_leave self.old history.old w least → AsksSome self.old.store.control.grain self.old.script w }
         ensures live { self.new.live ≡ self.old.live }
     {
         match self.under_way.take() {
