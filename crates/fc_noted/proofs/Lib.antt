@@ -1,4 +1,5 @@
 -- Lemmas, one subject a file.
+mod Accessing
 mod Acting
 mod Alone
 mod Beginning
@@ -12,18 +13,23 @@ mod Finishing
 mod Fitting
 mod GoingAlong
 mod GoodIds
+pub mod Halting
 mod Holding
 mod Idle
 mod InHand
+mod KeepingLanes
 mod Lines
 mod Marked
 mod Moments
 mod Nexts
 mod Opening
 mod Putting
+mod Reading
+mod Refusing
 mod Resting
 mod Standing
 mod Stepping
+mod Still
+mod Telling
 mod Tidying
-mod Writing
 mod Commanding

@@ -1,7 +1,8 @@
 -- A line answered step by step: one step more, and an end.
 use Rattle.std.proofs.Common.{◌≡◌, ℕ, ◌≤◌, true, false, Option, Some, None, List, [], ◌∷◌, ◌++◌, length, append_assoc, Result, Ok, refl, sym, ap, subst, ◌∙◌, ◌⊎◌, inl, inr, arith}
 use Rattle.std.proofs.lemmas.List.{append-nil, length-append}
-use Rattle.fc_agenda.specs.Goes.{Goes, GoesToEnd, answers, passes, stays}
+use Rattle.std.specs.Prelude.{Err, IfErr, OnOk}
+use Rattle.fc_agenda.specs.Goes.{Goes, GoesAsking, GoesSome, GoesToEnd, answers, passes, stays}
 use Rattle.fc_agenda.proofs.Going.{Goes-append}
 use Rattle.fc_base.specs.declared.command.Line.{Line}
 use Rattle.fc_base.specs.declared.fault.WordFault.{WordFault}
@@ -13,6 +14,9 @@ use Rattle.fc_entry.specs.declared.entry.Entry.{Entry}
 use Rattle.fc_legal.specs.Added.{Adds}
 use Rattle.fc_legal.specs.Agenda.{Agenda, Asks, Reading, Session, line_read, session_rules}
 use Rattle.fc_legal.specs.Whole.{Whole}
+use Rattle.fc_marks.specs.declared.error.NotedStop.TheVariants.{LogFull, NoMemory, MetaFailed, MetaFull}
+use Rattle.fc_marks.specs.declared.error.NotedStop.{NotedStop}
+use Rattle.fc_noted.specs.Stopping.{Halts, LineHalts}
 use Rattle.fc_noted.specs.Noted.{CanStep, GoesOnTo, IsAt, IsAtBy, IsDoing, IsNotedAt, Logs, Stays}
 use Rattle.fc_noted.specs.declared.noted.Noted.{Noted}
 use Rattle.fc_noted.specs.declared.noted.UnderWay.{UnderWay}
@@ -156,50 +160,123 @@ module _ {C D : Type 0} (seen : D → List ℕ) (may_leave : D → List ℕ → 
       subst (λ (a : Agenda). Asks d.begun.control.grain a w (0, request_of way.doing.steps.ask)) over_then d.asked in
       absurd (cc none)
 
-  -- The line is answered to its end.
-  abbrev pub LineEnds : Noted C D → HistoryState → Line → Noted C D → HistoryState → Type 0
+  -- All that was asked is answered.
+  abbrev pub AllMade : Noted C D → HistoryState → Noted C D → HistoryState → Type 0
+  AllMade old before new after =
+      (read : Reading) (w : Whole) (least : List Row) → IsNotedAt seen may_leave old before w least →
+      (next : Whole) × (least_next : List Row) × IsNotedAt seen may_leave new after next least_next
+      × Adds before after (λ more. GoesToEnd (session_rules old.store.control.grain read) (agenda_of old.store.control.grain old.script) w more next)
+
+  pub all_made : (old mid : Noted C D) (before between : HistoryState) → Comes old before mid between → (new : Noted C D) (after : HistoryState) →
+      ((w : Whole) (least : List Row) → IsAt seen may_leave mid between w least → GoesOnTo seen may_leave false w least mid between new after) → AllMade old before new after
+  all_made old mid before between comes new after made read w least there =
+      let m = comes.came w least there in
+      let s = made m.0 m.1 m.2 in
+      let on = stayed old mid before between comes new after w m.0 m.1 m.3 s.0 in
+      let grain : GrainSize = old.store.control.grain in
+      let over : agenda_of grain new.script ≡ Session [] = subst (λ (g : GrainSize). agenda_of g new.script ≡ Session []) (s.0.grain ∙ comes.grain) s.1 in (
+        on.0,
+        on.1,
+        rests_by new.under_way new after on.0 on.1 on.2 s.1,
+        record { more = on.3.more; entries = on.3.entries; are = record { end = agenda_of grain new.script; goes = on.3.are read; over = over } },
+      )
+
+  -- Which is within the limit, and another line may be asked.
+  pub all_over : (old mid : Noted C D) (before between : HistoryState) → Comes old before mid between → (new : Noted C D) (after : HistoryState) →
+      ((w : Whole) (least : List Row) → IsAt seen may_leave mid between w least → GoesOnTo seen may_leave false w least mid between new after) →
+      (new.store.control.grain ≡ old.store.control.grain) × (new.live ≡ true) × (length after.entries ≤ 262144)
+  all_over old mid before between comes new after made =
+      let can = comes.can in
+      let s = (made can.w can.least can.at).0 in
+      (s.grain ∙ comes.grain, s.live, subst (λ (h : HistoryState). length h.entries ≤ 262144) (sym s.same) can.room)
+
+-- ---- a line
+
+-- It asks, once it is read, what its script asks.
+module _ (grain : GrainSize) (read : Reading) (bytes : List ℕ) (w : Whole) (line : Result Line WordFault) (is : read w.books bytes ≡ line) (a : Agenda) (goes : GoesOn grain w (line_read grain w line []) a) where
+  line_goes : (b : Agenda) (more : List Entry) (last : Whole) → Goes (session_rules grain read) a w more b last → Goes (session_rules grain read) (Session (single bytes ∷ [])) w more b last
+  line_goes b more last on =
+      passes (ap (λ (l : Result Line WordFault). Some (line_read grain w l [])) is)
+      (Goes-append (session_rules grain read) (line_read grain w line []) a b w w last [] more (goes read) on)
+
+  pub line_to_end : (before after : HistoryState) (last : Whole) → Adds before after (λ more. GoesToEnd (session_rules grain read) a w more last) →
+      Adds before after (λ more. GoesToEnd (session_rules grain read) (Session (single bytes ∷ [])) w more last)
+  line_to_end before after last adds =
+      record {
+        more = adds.more;
+        entries = adds.entries;
+        are = record { end = adds.are.end; goes = line_goes adds.are.end adds.more last adds.are.goes; over = adds.are.over };
+      }
+
+  line_some : (before after : HistoryState) (last : Whole) → Adds before after (λ more. GoesSome (session_rules grain read) a w more last) →
+      Adds before after (λ more. GoesSome (session_rules grain read) (Session (single bytes ∷ [])) w more last)
+  line_some before after last adds =
+      record { more = adds.more; entries = adds.entries; are = record { end = adds.are.end; goes = line_goes adds.are.end adds.more last adds.are.goes } }
+
+  line_asking : (before after : HistoryState) (last : Whole) → Adds before after (λ more. GoesAsking (session_rules grain read) a w more last) →
+      Adds before after (λ more. GoesAsking (session_rules grain read) (Session (single bytes ∷ [])) w more last)
+  line_asking before after last adds =
+      record {
+        more = adds.more;
+        entries = adds.entries;
+        are = record { end = adds.are.end; goes = line_goes adds.are.end adds.more last adds.are.goes; wanted = adds.are.wanted; asks = adds.are.asks };
+      }
+
+  pub line_halts : {C D : Type 0} (may_leave : D → List ℕ → Type 0) (stop : NotedStop) (new : Noted C D) (before after : HistoryState) → Halts grain may_leave read stop a new w before after →
+      Halts grain may_leave read stop (Session (single bytes ∷ [])) new w before after
+  line_halts may_leave LogFull new before after h = (h.0, (h.1.0, h.1.1, h.1.2, line_asking before after h.1.0 h.1.3))
+  line_halts may_leave NoMemory new before after h = (h.0, h.1, h.2, line_some before after h.0 h.3)
+  line_halts may_leave MetaFailed new before after h = (h.0, h.1, h.2, line_some before after h.0 h.3)
+  line_halts may_leave MetaFull new before after h = (h.0, h.1, h.2, line_some before after h.0 h.3)
+
+module _ {C D : Type 0} (seen : D → List ℕ) (may_leave : D → List ℕ → Type 0) where
+  -- It is answered to its end.
+  abbrev pub LineEnds : Noted C D → HistoryState → Result Line WordFault → Noted C D → HistoryState → Type 0
   LineEnds first before line new after =
-      (read : Reading) (bytes : List ℕ) (w : Whole) (least : List Row) → read w.books bytes ≡ Ok line → IsNotedAt seen may_leave first before w least →
+      (read : Reading) (bytes : List ℕ) (w : Whole) (least : List Row) → read w.books bytes ≡ line → IsNotedAt seen may_leave first before w least →
       (next : Whole) × (least_next : List Row) × IsNotedAt seen may_leave new after next least_next
       × Adds before after (λ more. GoesToEnd (session_rules first.store.control.grain read) (Session (single bytes ∷ [])) w more next)
 
-  module _ (first begun : Noted C D) (before : HistoryState) (line : Line) (others : begun ≡ record first { script = begun.script })
-      (goes : (w : Whole) → StandsFor first.store w → GoesOn first.store.control.grain w (line_read first.store.control.grain w (Ok line) []) (agenda_of first.store.control.grain begun.script))
+  -- Or it isn't.
+  abbrev pub AllHalt : Noted C D → HistoryState → NotedStop → Noted C D → HistoryState → Type 0
+  AllHalt old before stop new after =
+      (read : Reading) (w : Whole) (least : List Row) → IsNotedAt seen may_leave old before w least →
+      Halts old.store.control.grain may_leave read stop (agenda_of old.store.control.grain old.script) new w before after
+
+  abbrev pub LineStops : Noted C D → HistoryState → Result Line WordFault → NotedStop → Noted C D → HistoryState → Type 0
+  LineStops first before line stop new after =
+      (read : Reading) (bytes : List ℕ) (w : Whole) (least : List Row) → read w.books bytes ≡ line → IsNotedAt seen may_leave first before w least →
+      LineHalts may_leave read stop first new bytes w before after
+
+  module _ (first begun : Noted C D) (before : HistoryState) (line : Result Line WordFault) (others : begun ≡ record first { script = begun.script })
+      (goes : (w : Whole) → StandsFor first.store w → GoesOn first.store.control.grain w (line_read first.store.control.grain w line []) (agenda_of first.store.control.grain begun.script))
       (taken : (history : HistoryState) (w : Whole) (least : List Row) → IsNotedAt seen may_leave first history w least → IsNotedAt seen may_leave begun history w least)
-      (mid : Noted C D) (between : HistoryState) (comes : Comes begun before mid between) (new : Noted C D) (after : HistoryState)
-      (made : (w : Whole) (least : List Row) → IsAt seen may_leave mid between w least → GoesOnTo seen may_leave false w least mid between new after) where
-    abbrev grain : GrainSize
-    grain = first.store.control.grain
+      (new : Noted C D) (after : HistoryState) where
+    same_grain : begun.store.control.grain ≡ first.store.control.grain
+    same_grain = ap (λ (n : Noted C D). n.store.control.grain) others
 
-    -- by its script
-    script_ends : (w m last : Whole) (least : List Row) → Stays seen may_leave m least between mid new after → agenda_of new.store.control.grain new.script ≡ Session [] →
-        Brings begun.store.control.grain (agenda_of begun.store.control.grain begun.script) w (agenda_of begun.store.control.grain new.script) last before after →
-        Brings first.store.control.grain (agenda_of first.store.control.grain begun.script) w (Session []) last before after
-    script_ends w m last least s over to =
-        let over_first : agenda_of begun.store.control.grain new.script ≡ Session [] =
-        subst (λ (g : GrainSize). agenda_of g new.script ≡ Session []) (s.grain ∙ comes.grain) over in
-        subst (λ (g : GrainSize). Brings g (agenda_of g begun.script) w (Session []) last before after) (ap (λ (n : Noted C D). n.store.control.grain) others)
-        (subst (λ (a : Agenda). Brings begun.store.control.grain (agenda_of begun.store.control.grain begun.script) w a last before after) over_first to)
-
-    pub line_ends : LineEnds first before line new after
-    line_ends read bytes w least is there =
-        let m = comes.came w least (taken before w least there) in
-        let s = made m.0 m.1 m.2 in
-        let on = stayed begun mid before between comes new after w m.0 m.1 m.3 s.0 in
-        let all = script_ends w m.0 on.0 m.1 s.0 s.1 on.3 in (
-          on.0,
-          on.1,
-          rests_by new.under_way new after on.0 on.1 on.2 s.1,
-          record {
-            more = all.more;
-            entries = all.entries;
-            are = record {
-              end = Session [];
-              goes =
-                  passes (ap (λ (l : Result Line WordFault). Some (line_read grain w l [])) is)
-                  (Goes-append (session_rules grain read) (line_read grain w (Ok line) []) (agenda_of grain begun.script) (Session []) w w on.0 [] all.more (goes w there.told.0 read)
-                  (all.are read));
-              over = refl;
-            };
-          },
+    pub line_ends : AllMade seen may_leave begun before new after → LineEnds first before line new after
+    line_ends made read bytes w least is there =
+        let m = made read w least (taken before w least there) in
+        let grain : GrainSize = first.store.control.grain in (
+          m.0,
+          m.1,
+          m.2,
+          line_to_end grain read bytes w line is (agenda_of grain begun.script) (goes w there.told.0) before after m.0
+              (subst (λ (g : GrainSize). Adds before after (λ more. GoesToEnd (session_rules g read) (agenda_of g begun.script) w more m.0)) same_grain m.3),
         )
+
+    pub line_stops : (stop : NotedStop) → AllHalt begun before stop new after → LineStops first before line stop new after
+    line_stops stop halts read bytes w least is there =
+        let grain : GrainSize = first.store.control.grain in
+        line_halts grain read bytes w line is (agenda_of grain begun.script) (goes w there.told.0) may_leave stop new before after
+        (subst (λ (g : GrainSize). Halts g may_leave read stop (agenda_of g begun.script) new w before after) same_grain (halts read w least (taken before w least there)))
+
+    -- whichever it was
+    pub line_answered : (result : Result (Unit {0}) NotedStop) → OnOk result (AllMade seen may_leave begun before new after) → OnOk result (LineEnds first before line new after)
+    line_answered (Ok done) made = line_ends made
+    line_answered (Err stop) made = tt
+
+    pub line_halted : (result : Result (Unit {0}) NotedStop) → IfErr result (λ stop. AllHalt begun before stop new after) → IfErr result (λ stop. LineStops first before line stop new after)
+    line_halted (Ok done) halts = tt
+    line_halted (Err stop) halts = line_stops stop halts

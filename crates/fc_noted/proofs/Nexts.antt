@@ -134,7 +134,22 @@ module _ {C D : Type 0} (seen : D → List ℕ) (may_leave : D → List ℕ → 
           inl (s.0, record { volumes = s.1.volumes; leaves = λ c may. let l = s.1.leaves c may in (l.0, l.1, found_behind new.store.lanes new.named l.0 l.2) })
       stopped_behind result (inr s) =
           let h = s.1 in
-          inr (s.0, record { entry = h.entry; next = h.next; least = h.least; room = h.room; pushed = h.pushed; right = h.right; volumes = h.volumes; found = h.found })
+          inr (
+            s.0,
+            record {
+              entry = h.entry;
+              next = h.next;
+              least = h.least;
+              room = h.room;
+              pushed = h.pushed;
+              asking = h.asking;
+              reached = goes_then g w (agenda_of g old.script) (agenda_of g script) (agenda_of g h.asking) (goes_there w least at) h.reached;
+              answer = h.answer;
+              told = h.told;
+              volumes = h.volumes;
+              found = h.found;
+            },
+          )
 
     made_by : (result : Result Bool NotedStop) (new : Noted C D) (after : HistoryState) → StepMade seen may_leave moment left_since result on_script new before after → StepMade seen may_leave moment left_since result old new before after
     made_by (Ok more) new after s =

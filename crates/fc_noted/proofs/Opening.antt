@@ -1,5 +1,5 @@
 -- A noted store as it begins: without volumes, over disks without names.
-use Rattle.std.proofs.Common.{◌≡◌, ℕ, zero, suc, ◌<◌, ◌≤◌, Bool, true, false, cond, not, None, List, [], ◌∷◌, length, map, filter, get_or, All, Contains, inl, inr, refl, sym, ap, subst, ◌∙◌, arith}
+use Rattle.std.proofs.Common.{◌≡◌, ℕ, zero, suc, ◌^◌, ◌<◌, ◌≤◌, Bool, true, false, cond, not, None, List, [], ◌∷◌, length, map, filter, get_or, All, Contains, inl, inr, refl, sym, ap, subst, ◌∙◌, arith}
 use Rattle.std.specs.List.{count_by}
 use Rattle.std.proofs.lemmas.List.{get_or-map, length-map}
 use Rattle.std.proofs.lemmas.List.FromFn.{get_or-map-range_with_len, length-map-range_with_len}
@@ -7,6 +7,8 @@ use Rattle.fc_base.specs.Pools.{Pool, of_kind}
 use Rattle.fc_base.specs.Tables.{Tables}
 use Rattle.fc_base.specs.declared.disk.DiskKind.{DiskKind}
 use Rattle.fc_base.specs.declared.disk.DiskKind.TheVariants.{Flat, Thin}
+use Rattle.fc_base.specs.declared.limits.TheConstants.{LANES}
+use Rattle.fc_base.specs.declared.size.GrainSize.TheVariants.{K64}
 use Rattle.fc_base.specs.declared.size.GrainSize.{GrainSize}
 use Rattle.fc_base.specs.declared.volume.Volume.{Volume}
 use Rattle.fc_changed.specs.Row.{Row}
@@ -30,9 +32,13 @@ use Rattle.fc_lane.specs.Lane.{LaneView}
 use Rattle.fc_lanes.specs.Dealing.{Begin, all_dealt, dealt, pools_dealt}
 use Rattle.fc_lanes.proofs.Dealing.{few_dealt}
 use Rattle.fc_legal.specs.Whole.{Whole, opened, pool_at}
-use Rattle.fc_mdisk.specs.Disk.{DiskState, is_flat}
+use Rattle.fc_marks.specs.Stops.{stop_of_meta}
+use Rattle.fc_marks.specs.declared.error.NotedStop.TheVariants.{LogFull}
+use Rattle.fc_mdisk.specs.Disk.{DiskState, IsFresh, is_flat}
 use Rattle.fc_meta.proofs.Moments.{weaker}
 use Rattle.fc_meta.specs.Answers.{LeavesEither}
+use Rattle.fc_meta.specs.declared.error.MetaError.TheVariants.{Failed, Full, NoMemory}
+use Rattle.fc_meta.specs.declared.error.MetaError.{MetaError}
 use Rattle.fc_meta.specs.States.{IsResting, found}
 use Rattle.fc_metadisk.specs.Disk.{LeavesOnly}
 use Rattle.fc_rules.specs.LaneTold.{LaneOf}
@@ -51,8 +57,8 @@ use Rattle.fc_held.proofs.Naming.{with_name, without_names}
 use Rattle.law_noted.specs.Runs.{HasRun}
 use Rattle.fc_marks.specs.Marks.{marked}
 use Rattle.fc_marks.specs.declared.marks.Mark.{Mark}
-use Rattle.fc_noted.specs.Noted.{IsNotedAt, NoHistory}
-use Rattle.fc_noted.specs.Stopping.{LeavesNothingYet}
+use Rattle.fc_noted.specs.Noted.{BeginsOver, IsNotedAt, NoHistory}
+use Rattle.fc_noted.specs.Stopping.{LeavesFirst}
 use Rattle.fc_noted.specs.declared.noted.Noted.{Noted}
 
 -- ---- disks without names match lanes without volumes
@@ -278,16 +284,34 @@ begins seen may_leave lanes disks n h =
       };
     }
 
+-- a store that was made of disks
+pub begins_over : (grain : GrainSize) (count : ℕ) (disks : List DiskState) (s : StoreView) → length disks ≡ count → count < 2 ^ 30 → All IsFresh disks → StandsFor s (opened (pools_dealt LANES disks)) → s.control.grain ≡ grain →
+    Begin grain LANES (all_dealt LANES disks) s.lanes → BeginsOver count disks s
+begins_over grain count disks s counted few fresh stands same begin =
+    record {
+      counted = counted;
+      few = few;
+      fresh = fresh;
+      stands = stands;
+      begin = subst (λ (g : GrainSize). Begin g LANES (all_dealt LANES disks) s.lanes) (sym same) begin;
+    }
+
 -- ---- before the first image stands
 
+-- Whatever a crash leaves then.
 module _ {D : Type 0} (moment : D → ℕ) (left_since : D → ℕ → List ℕ → Type 0) where
-  pub nothing_yet : (old new : D) (i : MetaImage) → LeavesOnly moment left_since old new (LeavesEither NoImage (Image i)) → LeavesOnly moment left_since old new LeavesNothingYet
-  nothing_yet old new i run =
-      weaker moment left_since old new (LeavesEither NoImage (Image i)) LeavesNothingYet either run
+  pub leaves_first : (old new : D) (i : MetaImage) → i ≡ meta_of nothing_kept → LeavesOnly moment left_since old new (LeavesEither NoImage (Image i)) → LeavesOnly moment left_since old new LeavesFirst
+  leaves_first old new i empty run =
+      weaker moment left_since old new (LeavesEither NoImage (Image i)) LeavesFirst either run
     where
-      either : (c : List ℕ) → LeavesEither NoImage (Image i) c → LeavesNothingYet c
+      either : (c : List ℕ) → LeavesEither NoImage (Image i) c → LeavesFirst c
       either c (inl none) = inl none
-      either c (inr some) = inr (i, some)
+      either c (inr some) = inr (i, some, subst IsSoundImage (sym empty) (first_sound K64), ap kept_in empty)
+
+pub not_log : (e : MetaError) → stop_of_meta e ≡ LogFull → ⊥
+not_log Failed is = cc
+not_log NoMemory is = cc
+not_log Full is = cc
 
 -- ---- with another script
 

@@ -37,7 +37,10 @@ module _ {C D : Type 0} (seen : D → List ℕ) (may_leave : D → List ℕ → 
               least = x.1.least;
               room = x.1.room;
               pushed = x.1.pushed;
-              right = x.1.right;
+              asking = x.1.asking;
+              reached = x.1.reached;
+              answer = x.1.answer;
+              told = x.1.told;
               volumes = x.1.volumes;
               found = x.1.found;
             },

@@ -14,15 +14,18 @@ use Rattle.fc_imaging.specs.Imaging.{kept_of, lost_grains}
 use Rattle.fc_imaging.specs.Without.{without}
 use Rattle.fc_kept.specs.Images.{kept_in, meta_of}
 use Rattle.fc_kept.specs.Recoverable.{Recoverable}
-use Rattle.fc_lane.specs.Lane.{IsSameLane}
+use Rattle.fc_kept.specs.Sound.{IsSoundImage}
+use Rattle.fc_lane.specs.Lane.{IsSameLane, LaneView}
 use Rattle.fc_lanes.specs.AllLanes.{EachLane}
-use Rattle.fc_legal.specs.Added.{IsTold}
+use Rattle.fc_legal.specs.Added.{IsOf, IsTold}
 use Rattle.fc_legal.specs.Lawful.{IsLawful}
 use Rattle.fc_legal.specs.Steps.{Step, left_by}
 use Rattle.fc_legal.specs.Whole.{Whole}
 use Rattle.fc_meta.specs.States.{IsResting, found}
 use Rattle.fc_metadisk.specs.Disk.{LeavesOnly}
 use Rattle.fc_script.specs.Asking.{IsAnswer, IsLeft}
+use Rattle.fc_script.specs.Passage.{GoesOn}
+use Rattle.fc_script.specs.Script.{agenda_of}
 use Rattle.fc_script.specs.declared.script.Script.{Script}
 use Rattle.fc_stands.specs.Phase.{StandsAt}
 use Rattle.fc_stands.specs.Store.{StandsFor, StoreView}
@@ -78,17 +81,21 @@ GoesBehind grain Stands script entry new = (w next : Whole) → IsAnswer grain s
 -- ---- an error behind an entry
 
 module _ {C D : Type 0} (seen : D → List ℕ) (may_leave : D → List ℕ → Type 0) (moment : D → ℕ) (left_since : D → ℕ → List ℕ → Type 0) where
-  -- An entry was logged, and memory was wanted behind it: what stands is what the history leads to with it.
+  -- An entry that answers what the script asks next was logged, and memory was wanted behind it: what stands is what the history leads
+  -- to with it.
   pub record HasStoppedBehind (old new : Noted C D) (before after : HistoryState) (w : Whole) : Type 0 where
     pub entry : Entry
     pub next : Whole
     pub least : List Row
     pub room : length before.entries < 262144
     pub pushed : after ≡ record before { entries = before.entries ++ entry ∷ [] }
-    pub right : Step old.store.control.grain w entry next
+    pub asking : Script
+    pub reached : GoesOn old.store.control.grain w (agenda_of old.store.control.grain old.script) (agenda_of old.store.control.grain asking)
+    pub answer : IsAnswer old.store.control.grain asking w entry next
+    pub told : IsOf next after
     pub volumes : HaveVolumes new.disks new.store
     pub found : (c : List ℕ) → may_leave new.meta.disk c →
-        (image : MetaImage) × (recovered c ≡ Image image)
+        (image : MetaImage) × (recovered c ≡ Image image) × IsSoundImage image
         × ((back : List (List NamedDisk)) → HoldAllOf new.named new.store.lanes back → Recoverable old.store.control.grain back (kept_in image) next least None None)
 
   abbrev pub Stopped : Result Bool NotedStop → Noted C D → Noted C D → HistoryState → HistoryState → Whole → List Row → Type 0
@@ -109,6 +116,15 @@ module _ {C D : Type 0} (seen : D → List ℕ) (may_leave : D → List ℕ → 
   -- The same of an entry that was taken out of the noted store.
   abbrev pub WayMade : Result (Unit {0}) NotedStop → Noted C D → UnderWay → Noted C D → HistoryState → HistoryState → Type 0
   WayMade result old way new before after = StepMade (always result) (record old { under_way = Some way }) new before after
+
+-- ---- the disks of lanes
+
+-- Each lane has grains of its size, and as many disks of each kind.
+abbrev pub HasItsDisks : LaneView → LaneView → Type 0
+HasItsDisks old new = (new.grains.grain ≡ old.grains.grain) × (new.grains.disks ≡ old.grains.disks)
+
+abbrev pub KeepLanes : StoreView → StoreView → Type 0
+KeepLanes old new = EachLane HasItsDisks old.lanes new.lanes
 
 -- ---- a command
 

@@ -1,6 +1,7 @@
 -- When a noted store stands for a history.
-use Rattle.std.specs.Prelude.{◌≡◌, ◌⊎◌, ℕ, ◌<◌, ◌≤◌, Bool, true, false, List, [], ◌∷◌, ◌++◌, codes, length, slice_set, Option, Some, None}
+use Rattle.std.specs.Prelude.{◌≡◌, ◌⊎◌, ℕ, ◌<◌, ◌≤◌, ◌^◌, All, Bool, true, false, List, [], ◌∷◌, ◌++◌, codes, length, slice_set, Option, Some, None}
 use Rattle.fc_base.specs.Pools.{Pool}
+use Rattle.fc_base.specs.declared.limits.TheConstants.{LANES}
 use Rattle.fc_base.specs.declared.size.GrainSize.{GrainSize}
 use Rattle.fc_changed.specs.Row.{Row}
 use Rattle.fc_entry.specs.HistoryState.{HistoryState}
@@ -15,9 +16,11 @@ use Rattle.fc_kept.specs.Kept.{Kept, kept_after}
 use Rattle.fc_kept.specs.Prefix.{AreStepsOf}
 use Rattle.fc_kept.specs.Sound.{IsSoundImage}
 use Rattle.fc_lane.specs.Doing.{IsUnderWay}
+use Rattle.fc_lanes.specs.Dealing.{Begin, all_dealt, pools_dealt}
 use Rattle.fc_legal.specs.Added.{IsTold}
 use Rattle.fc_legal.specs.Agenda.{Asks}
 use Rattle.fc_legal.specs.Whole.{Whole, opened}
+use Rattle.fc_mdisk.specs.Disk.{DiskState, IsFresh}
 use Rattle.fc_meta.specs.States.{IsResting, found}
 use Rattle.fc_meta.specs.declared.meta.Meta.{Meta}
 use Rattle.fc_parts.specs.Law.{IsInVolume}
@@ -43,6 +46,14 @@ use Rattle.fc_noted.specs.declared.noted.UnderWay.{UnderWay}
 -- The history of `main` alone, without entries.
 abbrev pub NoHistory : HistoryState
 NoHistory = record { actors = codes "main" ∷ []; entries = [] }
+
+-- A store without volumes, whose lanes begin over these fresh disks, so many in all.
+pub record BeginsOver (count : ℕ) (disks : List DiskState) (s : StoreView) : Type 0 where
+  pub counted : length disks ≡ count
+  pub few : count < 2 ^ 30
+  pub fresh : All IsFresh disks
+  pub stands : StandsFor s (opened (pools_dealt LANES disks))
+  pub begin : Begin s.control.grain LANES (all_dealt LANES disks) s.lanes
 
 module _ {C D : Type 0} (seen : D → List ℕ) (may_leave : D → List ℕ → Type 0) where
   -- Metadata stands for what a point keeps, all of it synced; its rows are those of the history, but for writes that are marked. And

@@ -1,8 +1,11 @@
 -- What a stop leaves.
-use Rattle.std.specs.Prelude.{◌≡◌, ◌⊎◌, ℕ, true, List, Option, Some, None, Result, Ok, Err, slice_index_or}
+use Rattle.std.specs.Prelude.{◌≡◌, ◌⊎◌, ℕ, true, List, [], ◌∷◌, length, Option, Some, None, Result, Ok, Err, slice_index_or}
+use Rattle.fc_agenda.specs.Goes.{GoesAsking, GoesSome}
 use Rattle.fc_base.specs.declared.request.Request.{Request}
 use Rattle.fc_base.specs.declared.size.GrainSize.{GrainSize}
+use Rattle.fc_blocks.specs.Segments.{single}
 use Rattle.fc_changed.specs.Row.{Row}
+use Rattle.fc_entry.specs.HistoryState.{HistoryState}
 use Rattle.fc_format.specs.Halves.{Image, NoImage, recovered}
 use Rattle.fc_grains.specs.Volumes.{VolumeGrains, is_there, volume_of}
 use Rattle.fc_image.specs.declared.image.MetaImage.{MetaImage}
@@ -12,14 +15,17 @@ use Rattle.fc_kept.specs.OneGrain.{Another}
 use Rattle.fc_kept.specs.Recoverable.{Recoverable}
 use Rattle.fc_kept.specs.Sound.{IsSoundImage}
 use Rattle.fc_lane.specs.Lane.{LaneView}
-use Rattle.fc_legal.specs.Agenda.{Asks}
+use Rattle.fc_legal.specs.Added.{Adds, IsOf}
+use Rattle.fc_legal.specs.Agenda.{Agenda, Asks, Reading, Session, session_rules}
 use Rattle.fc_legal.specs.Whole.{Whole}
+use Rattle.law_crash.specs.Points.{nothing_kept}
 use Rattle.fc_script.specs.Passage.{GoesOn}
 use Rattle.fc_script.specs.Script.{agenda_of}
 use Rattle.fc_script.specs.declared.script.Script.{Script}
 use Rattle.fc_stands.specs.Store.{StoreView}
 use Rattle.fc_held.specs.Held.{HaveVolumes, HoldAllOf}
 use Rattle.fc_marks.specs.declared.error.NotedStop.{NotedStop}
+use Rattle.fc_marks.specs.declared.error.NotedStop.TheVariants.{LogFull}
 use Rattle.fc_noted.specs.declared.noted.Noted.{Noted}
 
 -- Nothing is asked, or the script asks this next.
@@ -63,10 +69,47 @@ pub record HasStopped {C D : Type 0} (may_leave : D → List ℕ → Type 0) (ol
   pub leaves : (c : List ℕ) → may_leave new.meta.disk c →
       (image : MetaImage) × (recovered c ≡ Image image) × MayBeRecovered old.store.control.grain old.script new.named new.store.lanes w least image
 
--- The disk of metadata behind `open`; and before the first image stands, a crash leaves it or none.
+-- ---- a line that isn't answered to its end
+
+-- The script goes on to something that is asked next.
+abbrev pub AsksSome : GrainSize → Script → Whole → Type 0
+AsksSome grain script w =
+    (asking : Script) × (request : Request) × GoesOn grain w (agenda_of grain script) (agenda_of grain asking) × Asks grain (agenda_of grain asking) w (0, request)
+
+-- Whatever a crash leaves now is an image with which, whatever the lanes give back, what is told may be recovered, with something that
+-- was asked and isn't answered, if anything was. The disks can be given back.
+pub record Leaves {C D : Type 0} (grain : GrainSize) (may_leave : D → List ℕ → Type 0) (n : Noted C D) (w : Whole) : Type 0 where
+  pub volumes : HaveVolumes n.disks n.store
+  pub found : (c : List ℕ) → may_leave n.meta.disk c →
+      (image : MetaImage) × (recovered c ≡ Image image) × IsSoundImage image
+      × ((back : List (List NamedDisk)) → HoldAllOf n.named n.store.lanes back →
+      (least : List Row) × (request : Option Request) × (one : Option Another) × Recoverable grain back (kept_in image) w least request one)
+
+-- The first entries of an agenda were logged, for the history's limit all that there is room for; and with them it is left so.
+abbrev pub Halts : {C D : Type 0} → GrainSize → (may_leave : D → List ℕ → Type 0) → Reading → NotedStop → Agenda → Noted C D → Whole → HistoryState → HistoryState → Type 0
+Halts grain may_leave read LogFull a new w before after =
+    (length after.entries ≡ 262144)
+    × ((next : Whole) × IsOf next after × Leaves grain may_leave new next
+    × Adds before after (λ more. GoesAsking (session_rules grain read) a w more next))
+Halts grain may_leave read stop a new w before after =
+    (next : Whole) × IsOf next after × Leaves grain may_leave new next
+    × Adds before after (λ more. GoesSome (session_rules grain read) a w more next)
+
+-- The same of a line.
+abbrev pub LineHalts : {C D : Type 0} → (may_leave : D → List ℕ → Type 0) → Reading → NotedStop → Noted C D → Noted C D → List ℕ → Whole → HistoryState → HistoryState → Type 0
+LineHalts may_leave read stop old new bytes w before after = Halts old.store.control.grain may_leave read stop (Session (single bytes ∷ [])) new w before after
+
+-- ---- before the first line
+
+-- The disk of metadata behind `open`, and behind `over`.
 abbrev pub opened_meta : {C D : Type 0} → Result (Noted C D) (D × NotedStop) → D
 opened_meta (Ok n) = n.meta.disk
 opened_meta (Err e) = e.0
 
-abbrev pub LeavesNothingYet : List ℕ → Type 0
-LeavesNothingYet c = (recovered c ≡ NoImage) ⊎ ((image : MetaImage) × (recovered c ≡ Image image))
+abbrev pub over_meta : {C D S : Type 0} → Result (Noted C D) (S × D × NotedStop) → D
+over_meta (Ok n) = n.meta.disk
+over_meta (Err e) = e.1
+
+-- Before the first image stands, a crash leaves it or none; and it says nothing.
+abbrev pub LeavesFirst : List ℕ → Type 0
+LeavesFirst c = (recovered c ≡ NoImage) ⊎ ((image : MetaImage) × (recovered c ≡ Image image) × IsSoundImage image × (kept_in image ≡ nothing_kept))

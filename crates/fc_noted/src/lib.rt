@@ -18,4 +18,4 @@ mod line;
 mod noted;
 mod step;
 
-pub use noted::{Noted, UnderWay};
+pub use noted::{Noted, UnderWay, first_store};

@@ -1,6 +1,6 @@
 //! A line answered, step by step.
 
-ghost use Rattle.std.specs.Prelude.{◌≡◌, ◌≤◌, ◌∷◌, [], ℕ, List, Ok, OnErr, OnOk, length, true, false};
+ghost use Rattle.std.specs.Prelude.{◌≡◌, ◌≤◌, ◌∷◌, [], ℕ, Err, IfErr, List, Ok, OnErr, OnOk, length, true, false};
 ghost use Rattle.fc_agenda.specs.Goes.{GoesToEnd};
 ghost use Rattle.fc_blocks.specs.Segments.{single};
 ghost use Rattle.fc_changed.specs.Row.{Row};
@@ -8,10 +8,13 @@ ghost use Rattle.fc_legal.specs.Added.{Adds};
 ghost use Rattle.fc_legal.specs.Agenda.{Reading, Session, session_rules};
 ghost use Rattle.fc_legal.specs.Whole.{Whole};
 ghost use Rattle.fc_noted.specs.Noted.{IsNotedAt};
+ghost use Rattle.fc_noted.specs.Stopping.{Halts, LineHalts};
+ghost use Rattle.fc_script.specs.Script.{agenda_of};
 ghost use Rattle.fc_store.specs.Answering.{IsStoreLine};
 
 use crate::noted::Noted;
 use fc_base::command::Line;
+use fc_base::fault::WordFault;
 use fc_entry::history::History;
 use fc_marks::NotedStop;
 use fc_mdisk::mdisk::Mdisk;
@@ -20,7 +23,7 @@ use fc_metadisk::MetaDisk;
 impl<D: Mdisk, M: MetaDisk> Noted<D, M> {
     /// Answers a line as `Store::run_line` does, step by step. Behind an error, only the disks are of use.
     ///
-    /// LogFull also where 2^64 - 1 steps didn't answer it.
+    /// NoMemory also where 2^64 - 1 steps didn't answer it.
     pub fn run_line(&mut self, line: Line, history: &mut History) -> Result<(), NotedStop>
         requires at { (w : Whole) × (least : List Row) × IsNotedAt M.seen M.may_leave self.old history.old w least }
         requires live { self.old.live ≡ true }
@@ -29,11 +32,53 @@ impl<D: Mdisk, M: MetaDisk> Noted<D, M> {
         ensures answered { OnOk result ((read : Reading) (bytes : List ℕ) (w : Whole) (least : List Row) → read w.books bytes ≡ Ok line → IsNotedAt M.seen M.may_leave self.old history.old w least →
             (next : Whole) × (least_next : List Row) × IsNotedAt M.seen M.may_leave self.new history.new next least_next
             × Adds history.old history.new (λ more. GoesToEnd (session_rules self.old.store.control.grain read) (Session (single bytes ∷ [])) w more next)) }
+        ensures halted { IfErr result (λ stop. (read : Reading) (bytes : List ℕ) (w : Whole) (least : List Row) → read w.books bytes ≡ Ok line → IsNotedAt M.seen M.may_leave self.old history.old w least →
+            LineHalts M.may_leave read stop self.old self.new bytes w history.old history.new) }
+        ensures grain { OnOk result (self.new.store.control.grain ≡ self.old.store.control.grain) }
         ensures live { OnOk result (self.new.live ≡ true) }
         ensures stopped { OnErr result (self.new.live ≡ false) }
         ensures limit { length history.new.entries ≤ 262144 }
     {
         self.begin_line(line);
+        self.make_all(history)
+    }
+
+    /// Tells of a line that it has this fault in its words: one entry. Behind an error, only the disks are of use.
+    pub fn run_unread(&mut self, fault: WordFault, history: &mut History) -> Result<(), NotedStop>
+        requires at { (w : Whole) × (least : List Row) × IsNotedAt M.seen M.may_leave self.old history.old w least }
+        requires live { self.old.live ≡ true }
+        requires room { length history.old.entries ≤ 262144 }
+        ensures answered { OnOk result ((read : Reading) (bytes : List ℕ) (w : Whole) (least : List Row) → read w.books bytes ≡ Err fault → IsNotedAt M.seen M.may_leave self.old history.old w least →
+            (next : Whole) × (least_next : List Row) × IsNotedAt M.seen M.may_leave self.new history.new next least_next
+            × Adds history.old history.new (λ more. GoesToEnd (session_rules self.old.store.control.grain read) (Session (single bytes ∷ [])) w more next)) }
+        ensures halted { IfErr result (λ stop. (read : Reading) (bytes : List ℕ) (w : Whole) (least : List Row) → read w.books bytes ≡ Err fault → IsNotedAt M.seen M.may_leave self.old history.old w least →
+            LineHalts M.may_leave read stop self.old self.new bytes w history.old history.new) }
+        ensures grain { OnOk result (self.new.store.control.grain ≡ self.old.store.control.grain) }
+        ensures live { OnOk result (self.new.live ≡ true) }
+        ensures stopped { OnErr result (self.new.live ≡ false) }
+        ensures limit { length history.new.entries ≤ 262144 }
+    {
+        self.begin_unread(fault);
+        self.make_all(history)
+    }
+
+    /// Makes steps until nothing of the line at hand is left.
+    ///
+    /// NoMemory also where 2^64 - 1 steps leave something.
+    fn make_all(&mut self, history: &mut History) -> Result<(), NotedStop>
+        requires at { (w : Whole) × (least : List Row) × IsNotedAt M.seen M.may_leave self.old history.old w least }
+        requires live { self.old.live ≡ true }
+        requires room { length history.old.entries ≤ 262144 }
+        ensures answered { OnOk result ((read : Reading) (w : Whole) (least : List Row) → IsNotedAt M.seen M.may_leave self.old history.old w least →
+            (next : Whole) × (least_next : List Row) × IsNotedAt M.seen M.may_leave self.new history.new next least_next
+            × Adds history.old history.new (λ more. GoesToEnd (session_rules self.old.store.control.grain read) (agenda_of self.old.store.control.grain self.old.script) w more next)) }
+        ensures halted { IfErr result (λ stop. (read : Reading) (w : Whole) (least : List Row) → IsNotedAt M.seen M.may_leave self.old history.old w least →
+            Halts self.old.store.control.grain M.may_leave read stop (agenda_of self.old.store.control.grain self.old.script) self.new w history.old history.new) }
+        ensures grain { OnOk result (self.new.store.control.grain ≡ self.old.store.control.grain) }
+        ensures live { OnOk result (self.new.live ≡ true) }
+        ensures stopped { OnErr result (self.new.live ≡ false) }
+        ensures limit { length history.new.entries ≤ 262144 }
+    {
         'steps: for _ in 0..u64::MAX {
             match self.make_step(history) {
                 Ok(true) => {}
@@ -42,6 +87,6 @@ impl<D: Mdisk, M: MetaDisk> Noted<D, M> {
             }
         }
         self.live = false;
-        Err(NotedStop::LogFull)
+        Err(NotedStop::NoMemory)
     }
 }

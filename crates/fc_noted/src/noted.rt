@@ -1,23 +1,25 @@
 //! The noted store: how it begins, which line it answers, and its end.
 
-ghost use Rattle.std.specs.Prelude.{◌≡◌, ◌<◌, ◌^◌, [], IfErr, IfOk, List, Ok, length, map, replicate, true, vec_len};
+ghost use Rattle.std.specs.Prelude.{◌≡◌, ◌≢◌, ◌<◌, ◌^◌, [], Err, IfErr, IfOk, List, Ok, length, map, replicate, true, vec_len};
 ghost use Rattle.std.specs.List.{All};
 ghost use Rattle.fc_changed.specs.Row.{Row};
 ghost use Rattle.fc_entry.specs.HistoryState.{HistoryState};
 ghost use Rattle.fc_lanes.specs.Dealing.{Begin, all_dealt, pools_dealt};
 ghost use Rattle.fc_legal.specs.Agenda.{line_read};
 ghost use Rattle.fc_legal.specs.Whole.{Whole, opened};
-ghost use Rattle.fc_mdisk.specs.Disk.{IsFresh};
+ghost use Rattle.fc_marks.specs.Stops.{stop_of_meta};
+ghost use Rattle.fc_mdisk.specs.Disk.{DiskState, IsFresh};
 ghost use Rattle.fc_metadisk.specs.Disk.{LeavesOnly, Only};
 ghost use Rattle.fc_held.specs.Held.{HaveVolumes, HoldAllOf};
-ghost use Rattle.fc_noted.specs.Noted.{IsNotedAt, NoHistory};
-ghost use Rattle.fc_noted.specs.Stopping.{LeavesNothingYet, opened_meta};
+ghost use Rattle.fc_noted.specs.Noted.{BeginsOver, IsNotedAt, NoHistory};
+ghost use Rattle.fc_noted.specs.Stopping.{LeavesFirst, opened_meta, over_meta};
 ghost use Rattle.fc_script.specs.Passage.{GoesOn};
 ghost use Rattle.fc_script.specs.Script.{agenda_of};
 ghost use Rattle.fc_stands.specs.Store.{StandsFor};
 ghost use Rattle.fc_store.specs.Answering.{IsStoreLine};
 
 use fc_base::command::Line;
+use fc_base::fault::WordFault;
 use fc_base::limits::LANES;
 use fc_base::outcome::NoMemory;
 use fc_base::size::GrainSize;
@@ -83,16 +85,39 @@ impl<D: Mdisk, M: MetaDisk> Noted<D, M> {
         requires synced { Only (M.seen disk) (M.may_leave disk) }
         ensures noted { IfOk result (λ n. IsNotedAt M.seen M.may_leave n NoHistory (opened (pools_dealt LANES (map D.meaning disks.items))) []) }
         ensures live { IfOk result (λ n. n.live ≡ true) }
-        ensures any_moment { LeavesOnly M.moment M.left_since disk (opened_meta result) LeavesNothingYet }
+        ensures any_moment { LeavesOnly M.moment M.left_since disk (opened_meta result) LeavesFirst }
     {
         let count = disks.len();
         let store = match first_store(alloc, grain, disks) {
             Ok(store) => store,
             Err(NoMemory) => return Err((disk, NotedStop::NoMemory)),
         };
+        match Noted::over(alloc, store, count, disk) {
+            Ok(noted) => Ok(noted),
+            Err((_, disk, stop)) => Err((disk, stop)),
+        }
+    }
+
+    /// As `open`, over a store that `first_store` made of so many disks. Refused, the store comes back, and the disk of metadata.
+    pub fn over(
+        alloc: Global,
+        store: Store<D>,
+        count: usize,
+        disk: M,
+    ) -> Result<Noted<D, M>, (Store<D>, M, NotedStop)>
+        requires begins { (disks : List DiskState) × BeginsOver count disks store }
+        requires zeros { M.seen disk ≡ replicate (length (M.seen disk)) 0 }
+        requires synced { Only (M.seen disk) (M.may_leave disk) }
+        ensures noted { IfOk result (λ n. (disks : List DiskState) → BeginsOver count disks store → IsNotedAt M.seen M.may_leave n NoHistory (opened (pools_dealt LANES disks)) []) }
+        ensures store { IfOk result (λ n. n.store ≡ store) }
+        ensures live { IfOk result (λ n. n.live ≡ true) }
+        ensures any_moment { LeavesOnly M.moment M.left_since disk (over_meta result) LeavesFirst }
+        ensures back { IfErr result (λ e. e.0 ≡ store) }
+        ensures not_log { IfErr result (λ e. e.2 ≢ NotedStop.LogFull) }
+    {
         let image = match image_of(alloc, store.control(), store.all_lanes()) {
             Ok(image) => image,
-            Err(NoMemory) => return Err((disk, NotedStop::NoMemory)),
+            Err(NoMemory) => return Err((store, disk, NotedStop::NoMemory)),
         };
         match Meta::open(alloc, disk, &image) {
             Ok(meta) => Ok(Noted {
@@ -106,7 +131,7 @@ impl<D: Mdisk, M: MetaDisk> Noted<D, M> {
                 under_way: None,
                 live: true,
             }),
-            Err((disk, error)) => Err((disk, stop_of(error))),
+            Err((disk, error)) => Err((store, disk, stop_of(error))),
         }
     }
 
@@ -120,6 +145,24 @@ impl<D: Mdisk, M: MetaDisk> Noted<D, M> {
         ensures others { self.new ≡ record self.old { script = self.new.script } }
     {
         self.script = Script::of_line(&self.store, line);
+    }
+
+    /// Takes up a line with this fault in its words, which `make_step` then tells. Nothing may be left of the line before.
+    pub fn begin_unread(&mut self, fault: WordFault)
+        requires at { (history : HistoryState) × (w : Whole) × (least : List Row) × IsNotedAt M.seen M.may_leave self.old history w least }
+        ensures line { (w : Whole) → StandsFor self.old.store w →
+            GoesOn self.old.store.control.grain w (line_read self.old.store.control.grain w (Err fault) []) (agenda_of self.old.store.control.grain self.new.script) }
+        ensures at { (history : HistoryState) (w : Whole) (least : List Row) → IsNotedAt M.seen M.may_leave self.old history w least → IsNotedAt M.seen M.may_leave self.new history w least }
+        ensures others { self.new ≡ record self.old { script = self.new.script } }
+    {
+        self.script = Script::Unread(fault);
+    }
+
+    /// The store.
+    pub fn store(&self) -> &Store<D>
+        ensures { result.now ≡ self.now.store }
+    {
+        &self.store
     }
 
     /// Whether steps may be made: no error came yet.
@@ -155,7 +198,7 @@ impl<D: Mdisk, M: MetaDisk> Noted<D, M> {
 }
 
 /// A store without volumes, whose lanes begin over these disks, which are dealt to them in turn. Refused, the disks are gone.
-fn first_store<D: Mdisk>(
+pub fn first_store<D: Mdisk>(
     alloc: Global,
     grain: GrainSize,
     disks: Vec<D>,
@@ -178,6 +221,8 @@ fn first_store<D: Mdisk>(
 }
 
 /// The stop of an error of the writer.
-fn stop_of(error: MetaError) -> NotedStop {
+fn stop_of(error: MetaError) -> NotedStop
+    ensures { result ≡ stop_of_meta error }
+{
     NotedStop::from(error)
 }

@@ -1,12 +1,12 @@
 //! One step of what a line asks.
 
-ghost use Rattle.std.specs.Prelude.{◌≡◌, ◌≢◌, ◌<◌, ◌≤◌, ◌↔◌, List, [], ◌∷◌, ◌++◌, length, true, None, Some, IfErr, IsTrue, OnErr, OnOk};
+ghost use Rattle.std.specs.Prelude.{◌≡◌, ◌≢◌, ◌≤◌, ◌↔◌, List, [], ◌∷◌, ◌++◌, length, true, None, Some, IfErr, IsErrOf, IsTrue, OnErr, OnOk};
 ghost use Rattle.fc_changed.specs.Row.{Row};
 ghost use Rattle.fc_entry.specs.HistoryState.{HistoryState};
-ghost use Rattle.fc_entry.specs.declared.entry.Entry.{Entry as EntryLogged};
 ghost use Rattle.fc_legal.specs.Whole.{Whole};
-ghost use Rattle.fc_noted.specs.Making.{CopiesNext, GoesBehind, IsMarkedNext, StepMade, WayMade, done};
-ghost use Rattle.fc_noted.specs.Noted.{CanStep, IsDoing};
+ghost use Rattle.fc_noted.specs.Making.{CopiesNext, GoesBehind, IsMarkedNext, KeepLanes, StepMade, WayMade, done};
+ghost use Rattle.fc_noted.specs.Noted.{CanStep, IsAt, IsDoing};
+ghost use Rattle.fc_noted.specs.Stopping.{AsksSome};
 ghost use Rattle.law_noted.specs.DataSteps.{copies_nothing};
 ghost use Rattle.law_noted.specs.Going.{marks_left, volume_noted};
 ghost use Rattle.law_noted.specs.Records.{record_after};
@@ -73,6 +73,7 @@ impl<D: Mdisk, M: MetaDisk> Noted<D, M> {
     pub fn make_step(&mut self, history: &mut History) -> Result<bool, NotedStop>
         requires can { CanStep M.seen M.may_leave self.old history.old }
         ensures made { StepMade M.seen M.may_leave M.moment M.left_since result self.old self.new history.old history.new }
+        ensures full { IsErrOf result NotedStop.LogFull → (w : Whole) (least : List Row) → IsAt M.seen M.may_leave self.old history.old w least → AsksSome self.old.store.control.grain self.old.script w }
         ensures live { IsTrue self.new.live ↔ OnErr result ⊥ }
     {
         let made = self.step(history);
@@ -86,6 +87,7 @@ impl<D: Mdisk, M: MetaDisk> Noted<D, M> {
     fn step(&mut self, history: &mut History) -> Result<bool, NotedStop>
         requires can { CanStep M.seen M.may_leave self.old history.old }
         ensures made { StepMade M.seen M.may_leave M.moment M.left_since result self.old self.new history.old history.new }
+        ensures full { IsErrOf result NotedStop.LogFull → (w : Whole) (least : List Row) → IsAt M.seen M.may_leave self.old history.old w least → AsksSome self.old.store.control.grain self.old.script w }
         ensures live { self.new.live ≡ self.old.live }
     {
         match self.under_way.take() {
@@ -104,6 +106,7 @@ impl<D: Mdisk, M: MetaDisk> Noted<D, M> {
         requires live { self.old.live ≡ true }
         requires room { length history.old.entries ≤ 262144 }
         ensures made { WayMade M.seen M.may_leave M.moment M.left_since result self.old way self.new history.old history.new }
+        ensures lanes { KeepLanes self.old.store self.new.store }
         ensures live { self.new.live ≡ self.old.live }
     {
         if let Some(record) = way.due {
@@ -122,6 +125,7 @@ impl<D: Mdisk, M: MetaDisk> Noted<D, M> {
         requires live { self.old.live ≡ true }
         requires due { way.due ≡ Some note }
         ensures made { (history : HistoryState) → WayMade M.seen M.may_leave M.moment M.left_since result self.old way self.new history history }
+        ensures lanes { KeepLanes self.old.store self.new.store }
         ensures live { self.new.live ≡ self.old.live }
     {
         put_record(self.alloc, &mut self.meta, note)?;
@@ -159,6 +163,7 @@ impl<D: Mdisk, M: MetaDisk> Noted<D, M> {
         requires due { way.due ≡ None }
         requires next { next_of way.doing.steps ≡ NextMove mv }
         ensures made { (history : HistoryState) → WayMade M.seen M.may_leave M.moment M.left_since result self.old way self.new history history }
+        ensures lanes { KeepLanes self.old.store self.new.store }
         ensures live { self.new.live ≡ self.old.live }
     {
         if !self.copies_nothing(&way, &mv) {
@@ -197,6 +202,7 @@ impl<D: Mdisk, M: MetaDisk> Noted<D, M> {
         requires due { way.due ≡ None }
         requires next { next_of way.doing.steps ≡ Own part }
         ensures made { (history : HistoryState) → WayMade M.seen M.may_leave M.moment M.left_since result self.old way self.new history history }
+        ensures lanes { KeepLanes self.old.store self.new.store }
         ensures live { self.new.live ≡ self.old.live }
     {
         let grain = way.doing.steps.grain;
@@ -226,6 +232,7 @@ impl<D: Mdisk, M: MetaDisk> Noted<D, M> {
         requires marked { IsMarkedNext self.old way }
         requires copies { CopiesNext self.old way }
         ensures made { (history : HistoryState) → WayMade M.seen M.may_leave M.moment M.left_since done self.old way self.new history history }
+        ensures lanes { KeepLanes self.old.store self.new.store }
         ensures live { self.new.live ≡ self.old.live }
     {
         let UnderWay {
@@ -248,6 +255,7 @@ impl<D: Mdisk, M: MetaDisk> Noted<D, M> {
         requires over { next_of way.doing.steps ≡ Over }
         requires taken { self.old.under_way ≡ None }
         ensures made { WayMade M.seen M.may_leave M.moment M.left_since result self.old way self.new history.old history.new }
+        ensures lanes { KeepLanes self.old.store self.new.store }
         ensures live { self.new.live ≡ self.old.live }
     {
         let UnderWay { place, doing, .. } = way;
@@ -270,20 +278,6 @@ impl<D: Mdisk, M: MetaDisk> Noted<D, M> {
     {
         self.script.answered(&self.store, &entry)?;
         log(history, entry)?;
-        Ok(())
-    }
-
-    /// The script goes on behind the history's last entry.
-    pub(crate) fn go_behind(&mut self, history: &History) -> Result<(), NotedStop>
-        requires stands { (w : Whole) × StandsFor self.old.store w }
-        requires some { 0 < length history.now.entries }
-        ensures goes { OnOk result ((before : List EntryLogged) (entry : EntryLogged) → history.now.entries ≡ before ++ entry ∷ [] →
-            GoesBehind self.old.store.control.grain (StandsFor self.old.store) self.old.script entry self.new.script) }
-        ensures stop { IfErr result (λ stop. stop ≡ NotedStop.NoMemory) }
-        ensures others { self.new ≡ record self.old { script = self.new.script } }
-    {
-        self.script
-            .answered(&self.store, history.entry(history.len() - 1))?;
         Ok(())
     }
 }

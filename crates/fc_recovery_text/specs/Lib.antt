@@ -1,5 +1,4 @@
 -- What is written of an image, and what is said of a sink that got it.
 pub mod Text
-pub mod Adding
 pub mod Recovering
 pub mod Putting

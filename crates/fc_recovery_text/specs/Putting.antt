@@ -1,10 +1,8 @@
 -- What a sink got, where some of a text may be missing because the sink failed or memory was wanted.
-use Rattle.std.specs.Prelude.{◌≡◌, ℕ, Bool, true, false, List, ◌++◌, take, Result, Ok, Err, is_some}
-use Rattle.std.specs.Bool.{OnFalse, OnTrue}
-use Rattle.fc_base.specs.Count.{FaultsAfter}
+use Rattle.std.specs.Prelude.{◌≡◌, ℕ, Bool, true, false, List, take, drop, Result, Ok, Err}
+use Rattle.std.specs.Bool.{OnFalse}
 use Rattle.fc_entry.specs.Written.{Written}
-use Rattle.fc_io.specs.Sink.{AddsFront, SinkState}
-use Rattle.fc_kept.specs.Disks.{NamedDisk}
+use Rattle.fc_io.specs.Sink.{SinkState}
 use Rattle.fc_recovered.specs.Recovered.{RecoveredState}
 use Rattle.fc_recovery_text.specs.Recovering.{AreRead}
 use Rattle.fc_recovery_text.specs.declared.state.Unwritten.{Unwritten}
@@ -15,6 +13,14 @@ abbrev pub IsPutOr : Result (Unit {0}) Unwritten → List ℕ → SinkState → 
 IsPutOr (Ok done) text before after = Written before text false after
 IsPutOr (Err Failed) text before after = Written before text true after
 IsPutOr (Err NoMemory) text before after = after ≡ before
+
+-- What the volume at a place reads, unless it has no grain.
+pub record NextPut (old new : RecoveredState) (place : ℕ) (before : SinkState) (failed : Bool) (after : SinkState) : Type 0 where
+  pub image : new.image ≡ old.image
+  pub grain : new.grain ≡ old.grain
+  pub text : List ℕ
+  pub read : AreRead old.grain old.image (take 1 (drop place old.image.volumes)) old.disks text new.disks
+  pub written : Written before text failed after
 
 -- What the volumes read, volume by volume; failed, a front of what some first ones read.
 pub record ReadsPut (old new : RecoveredState) (before : SinkState) (failed : Bool) (after : SinkState) : Type 0 where

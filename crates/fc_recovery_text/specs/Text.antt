@@ -4,6 +4,7 @@ use Rattle.std.specs.List.{flat_map}
 use Rattle.fc_base.specs.declared.command.Command.TheVariants.{Lsfcmap}
 use Rattle.fc_base.specs.declared.request.ReadPart.{ReadPart}
 use Rattle.fc_base.specs.declared.request.Reply.{Reply}
+use Rattle.fc_base.specs.declared.request.Request.{Request}
 use Rattle.fc_base.specs.declared.request.Request.TheVariants.{Read}
 use Rattle.fc_base.specs.declared.size.GrainSize.{GrainSize}
 use Rattle.fc_books.specs.Books.{Books}
@@ -28,6 +29,9 @@ rows_in grain image = report_rows grain (books_in image) (Lsfcmap None (Some 58)
 abbrev pub lines_text : List (List ℕ) → List ℕ
 lines_text rows = flat_map (λ (row : List ℕ). row ++ codes "\n") rows
 
--- A read and its answer.
+-- A request and its answer; and those of a read.
+abbrev pub answered_text : Request → Reply → List ℕ
+answered_text request reply = request_text request ++ codes " -> " ++ reply_text reply ++ codes "\n"
+
 abbrev pub read_text : ReadPart → Reply → List ℕ
-read_text part reply = request_text (Read part) ++ codes " -> " ++ reply_text reply ++ codes "\n"
+read_text part reply = answered_text (Read part) reply

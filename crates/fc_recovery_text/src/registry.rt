@@ -1,10 +1,9 @@
 //! The tables of an image, as reports ask for them.
 
-ghost use Rattle.std.specs.Prelude.{◌≡◌, ◌++◌, IfOk, OnOk, Some};
-ghost use Rattle.fc_base.specs.Tables.{Fits, after_change, room_asked};
+ghost use Rattle.std.specs.Prelude.{◌≡◌, [], IfOk, OnOk, Some};
+ghost use Rattle.fc_base.specs.Tables.{Fits, IsOrdered, after_change, room_asked};
 ghost use Rattle.fc_kept.specs.Images.{tables_in};
 ghost use Rattle.fc_kept.specs.Sound.{IsSoundImage};
-ghost use Rattle.fc_recovery_text.specs.Adding.{FitGroups, FitMappings, FitVolumes};
 
 use fc_base::outcome::NoMemory;
 use fc_base::volume::{Change, Group, Mapping, Volume};
@@ -46,10 +45,11 @@ fn add(alloc: Global, registry: &mut Registry, change: &Change) -> Result<(), No
     Ok(())
 }
 
-/// Adds volumes.
+/// Adds volumes where there are none.
 fn add_volumes(alloc: Global, registry: &mut Registry, volumes: &[Volume]) -> Result<(), NoMemory>
-    requires { FitVolumes registry.old.tables volumes.now }
-    ensures { OnOk result (registry.new.tables ≡ record registry.old.tables { volumes = registry.old.tables.volumes ++ volumes.now }) }
+    requires none { registry.old.tables.volumes ≡ [] }
+    requires ordered { IsOrdered (λ v. v.id.0) (λ v. v.name) volumes.now }
+    ensures { OnOk result (registry.new.tables ≡ record registry.old.tables { volumes = volumes.now }) }
 {
     for volume in volumes {
         let copy = copy_volume(alloc, volume)?;
@@ -58,10 +58,11 @@ fn add_volumes(alloc: Global, registry: &mut Registry, volumes: &[Volume]) -> Re
     Ok(())
 }
 
-/// Adds groups.
+/// Adds groups where there are none.
 fn add_groups(alloc: Global, registry: &mut Registry, groups: &[Group]) -> Result<(), NoMemory>
-    requires { FitGroups registry.old.tables groups.now }
-    ensures { OnOk result (registry.new.tables ≡ record registry.old.tables { groups = registry.old.tables.groups ++ groups.now }) }
+    requires none { registry.old.tables.groups ≡ [] }
+    requires ordered { IsOrdered (λ g. g.id.0) (λ g. g.name) groups.now }
+    ensures { OnOk result (registry.new.tables ≡ record registry.old.tables { groups = groups.now }) }
 {
     for group in groups {
         let copy = copy_group(alloc, group)?;
@@ -70,14 +71,15 @@ fn add_groups(alloc: Global, registry: &mut Registry, groups: &[Group]) -> Resul
     Ok(())
 }
 
-/// Adds mappings.
+/// Adds mappings where there are none.
 fn add_mappings(
     alloc: Global,
     registry: &mut Registry,
     mappings: &[Mapping],
 ) -> Result<(), NoMemory>
-    requires { FitMappings registry.old.tables mappings.now }
-    ensures { OnOk result (registry.new.tables ≡ record registry.old.tables { mappings = registry.old.tables.mappings ++ mappings.now }) }
+    requires none { registry.old.tables.mappings ≡ [] }
+    requires ordered { IsOrdered (λ m. m.id.0) (λ m. m.name) mappings.now }
+    ensures { OnOk result (registry.new.tables ≡ record registry.old.tables { mappings = mappings.now }) }
 {
     for mapping in mappings {
         let copy = copy_mapping(alloc, mapping)?;

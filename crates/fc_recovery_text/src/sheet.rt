@@ -1,10 +1,10 @@
 //! The chains of an image, as reports ask for them.
 
-ghost use Rattle.std.specs.Prelude.{◌≡◌, ◌++◌, Bool, List as Items, IfOk, OnOk, length, map, true};
+ghost use Rattle.std.specs.Prelude.{◌≡◌, ◌++◌, IfOk, OnOk, length, option_copied, true};
 ghost use Rattle.std.specs.Option.{option_map};
-ghost use Rattle.fc_base.specs.Tables.{Tables};
-ghost use Rattle.fc_bits.specs.Words.{bit_of, grains_of};
-ghost use Rattle.fc_kept.specs.Images.{kept_in, size_in, slot_in, slots_in};
+ghost use Rattle.fc_base.specs.Tables.{volume_with};
+ghost use Rattle.fc_bits.specs.Words.{grains_of};
+ghost use Rattle.fc_kept.specs.Images.{kept_in, size_in, slot_in, slots_in, tables_in};
 
 use fc_base::ids::VolId;
 use fc_base::outcome::NoMemory;
@@ -14,62 +14,86 @@ use fc_model::PlainSheet;
 use model_slots::slot::Slot;
 use std::alloc::Global;
 
-/// How many grains a volume has by the table; of one that isn't there, none.
-fn grains_in(volumes: &[Volume], volume: VolId) -> usize
-    ensures { (t : Tables) → t.volumes ≡ volumes.now → result ≡ size_in t volume }
+/// The volume with this id.
+fn volume_with(image: &MetaImage, volume: VolId) -> Option<&Volume>
+    ensures { option_copied result ≡ volume_with (tables_in image.now) volume }
 {
-    match volumes.iter().find(|v| v.id.0 == volume.0) {
-        Some(volume) => volume.grains as usize,
+    image.volumes.as_slice().iter().find(|v| volume.0 == v.id.0)
+}
+
+/// How many grains a volume has by the table; of one that isn't there, none.
+fn grains_in(image: &MetaImage, volume: VolId) -> u32
+    ensures { result ≡ size_in (tables_in image.now) volume }
+{
+    match volume_with(image, volume) {
+        Some(volume) => volume.grains,
         None => 0,
     }
 }
 
-/// Whether a grain's bit is set; past the last word none is.
-fn has_bit(words: &[u64], grain: usize) -> bool
-    ensures { result ≡ bit_of words.now grain }
-{
-    let place = grain / 64;
-    place < words.len() && words[place] >> (grain % 64) & 1 == 1
-}
-
 /// For each of so many grains whether its bit is set.
-fn marks_of(alloc: Global, words: &Words, grains: usize) -> Result<Vec<bool>, NoMemory>
+fn marks_of(alloc: Global, words: &Words, grains: u32) -> Result<Vec<bool>, NoMemory>
     ensures { IfOk result (λ marks. marks.items ≡ grains_of grains words.now) }
 {
-    let Ok(mut marks) = vec![in alloc; false; grains] else {
+    let Ok(mut marks) = vec![in alloc; false; grains as usize] else {
         return Err(NoMemory);
     };
     for grain in 0..grains {
-        marks[grain] = has_bit(words.as_slice(), grain);
+        marks[grain as usize] = words.has(grain);
     }
     Ok(marks)
 }
 
-/// A live slot of the chain with this label, which holds anything.
-fn live_slot(alloc: Global, label: u64, slot: &MetaSlot, grains: usize) -> Result<Slot, NoMemory>
-    ensures { IfOk result (λ made. (held : Items Bool) × (length held ≡ grains)
-        × (made ≡ record { birth = slot.now.birth.0; chain = label; volume = slot.now.volume.0; is_live = true; mapping = option_map (λ m. m.0) slot.now.map; held = held })) }
+/// A live slot of the chain with this label, with so many grains, of which it holds any.
+fn live_slot(alloc: Global, label: u64, slot: &MetaSlot, grains: u32) -> Result<Slot, NoMemory>
+    ensures grains { IfOk result (λ made. length made.held ≡ grains) }
+    ensures slot { IfOk result (λ made. made ≡ record {
+      birth = slot.now.birth.0;
+      chain = label;
+      volume = slot.now.volume.0;
+      is_live = true;
+      mapping = option_map (λ m. m.0) slot.now.map;
+      held = made.held;
+    }) }
 {
+    let birth = slot.birth.0;
+    let grains = grains as usize;
     match slot.map {
-        Some(map) => Slot::target(alloc, slot.birth.0, label, slot.volume.0, map.0, grains),
+        Some(map) => Slot::target(alloc, birth, label, slot.volume.0, map.0, grains),
         None => {
-            let mut alone = Slot::alone(alloc, slot.birth.0, slot.volume.0, grains)?;
-            alone.join(slot.birth.0, label);
+            let mut alone = Slot::alone(alloc, birth, slot.volume.0, grains)?;
+            alone.join(birth, label);
             Ok(alone)
         }
     }
 }
 
-/// A slot of the chain with this label, with what it holds of the volume's grains.
-fn slot_of(alloc: Global, volumes: &[Volume], label: u64, slot: &MetaSlot) -> Result<Slot, NoMemory>
-    ensures { IfOk result (λ made. (t : Tables) → t.volumes ≡ volumes.now → made ≡ slot_in t label slot.now) }
+/// The same of a slot that may be old.
+fn bare_slot(alloc: Global, label: u64, slot: &MetaSlot, grains: u32) -> Result<Slot, NoMemory>
+    ensures grains { IfOk result (λ made. length made.held ≡ grains) }
+    ensures slot { IfOk result (λ made. made ≡ record {
+      birth = slot.now.birth.0;
+      chain = label;
+      volume = slot.now.volume.0;
+      is_live = slot.now.live;
+      mapping = option_map (λ m. m.0) slot.now.map;
+      held = made.held;
+    }) }
 {
-    let grains = grains_in(volumes, slot.volume);
     let mut made = live_slot(alloc, label, slot, grains)?;
     if !slot.live {
         made.age();
     }
+    Ok(made)
+}
+
+/// A slot of the chain with this label, with what it holds of its volume's grains.
+fn slot_of(alloc: Global, image: &MetaImage, label: u64, slot: &MetaSlot) -> Result<Slot, NoMemory>
+    ensures { IfOk result (λ made. made ≡ slot_in (tables_in image.now) label slot.now) }
+{
+    let grains = grains_in(image, slot.volume);
     let marks = marks_of(alloc, &slot.held, grains)?;
+    let mut made = bare_slot(alloc, label, slot, grains)?;
     made.hold_only(marks.as_slice());
     Ok(made)
 }
@@ -77,14 +101,14 @@ fn slot_of(alloc: Global, volumes: &[Volume], label: u64, slot: &MetaSlot) -> Re
 /// Puts the slots of a chain behind others.
 fn put_slots(
     alloc: Global,
-    volumes: &[Volume],
+    image: &MetaImage,
     chain: &MetaChain,
     slots: &mut Vec<Slot>,
 ) -> Result<(), NoMemory>
-    ensures { OnOk result ((t : Tables) → t.volumes ≡ volumes.now → slots.new.items ≡ slots.old.items ++ slots_in t chain.now) }
+    ensures { OnOk result (slots.new.items ≡ slots.old.items ++ slots_in (tables_in image.now) chain.now) }
 {
     for slot in chain.slots.as_slice() {
-        let made = slot_of(alloc, volumes, chain.label, slot)?;
+        let made = slot_of(alloc, image, chain.label, slot)?;
         if slots.push(made).is_err() {
             return Err(NoMemory);
         }
@@ -98,7 +122,7 @@ pub(crate) fn sheet_of(alloc: Global, image: &MetaImage) -> Result<PlainSheet, N
 {
     let mut slots = Vec::new(alloc);
     for chain in image.chains.as_slice() {
-        put_slots(alloc, image.volumes.as_slice(), chain, &mut slots)?;
+        put_slots(alloc, image, chain, &mut slots)?;
     }
     Ok(PlainSheet::of(image.next_birth, slots))
 }

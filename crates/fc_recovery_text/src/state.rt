@@ -1,15 +1,20 @@
 //! What is recovered is written.
 
-ghost use Rattle.std.specs.Prelude.{◌≡◌, [], IfOk, is_err};
+ghost use Rattle.std.specs.Prelude.{◌≡◌, ◌<◌, [], IfOk, None, Some, is_err, length};
+ghost use Rattle.fc_base.specs.SheetFacts.{HasSizes};
+ghost use Rattle.fc_base.specs.declared.command.Command.TheVariants.{Lsfcmap};
+ghost use Rattle.fc_books.specs.Reports.{report_rows};
+ghost use Rattle.fc_check_sheet.specs.View.{view_of};
 ghost use Rattle.fc_entry.specs.Written.{Written};
 ghost use Rattle.fc_format.specs.Halves.{Image as FoundImage, recovered};
 ghost use Rattle.fc_image.specs.declared.image.MetaImage.{MetaImage as Said};
 ghost use Rattle.fc_kept.specs.Sound.{IsSoundImage};
 ghost use Rattle.fc_recovered.specs.Recovered.{CanRecover};
+ghost use Rattle.fc_report.specs.Asked.{asked};
 ghost use Rattle.fc_recovery_text.specs.Recovering.{IsFirstText, IsFound, IsFoundGood, IsImageText, IsStateText, KeepKinds};
 ghost use Rattle.fc_recovery_text.specs.declared.state.Unwritten.TheVariants.{Failed as SinkFailed, NoMemory as WantsMemory};
-ghost use Rattle.fc_recovery_text.specs.Putting.{IsPutOr, ReadsPut, StateIsPut};
-ghost use Rattle.fc_recovery_text.specs.Text.{lines_text, no_image, read_text, rows_in};
+ghost use Rattle.fc_recovery_text.specs.Putting.{IsPutOr, NextPut, ReadsPut, StateIsPut};
+ghost use Rattle.fc_recovery_text.specs.Text.{answered_text, lines_text, no_image, read_text, rows_in};
 
 use crate::registry::registry_of;
 use crate::sheet::sheet_of;
@@ -29,8 +34,27 @@ use fc_mdisk::mdisk::Mdisk;
 use fc_meta::{Meta, RecoverError};
 use fc_metadisk::MemMeta;
 use fc_recovered::{LaneDisks, Recovered};
+use fc_registry::Registry;
 use fc_report::report;
 use std::alloc::Global;
+
+/// The rows of all mappings by these tables and this view, with colons between the fields.
+fn all_rows(
+    alloc: Global,
+    grain: GrainSize,
+    registry: &Registry,
+    view: &PlainView,
+) -> Result<Rows, NoMemory>
+    requires { HasSizes view.now.sheet.slots }
+    ensures { IfOk result (λ rows.
+        rows ≡ report_rows grain (asked registry.now.tables (view_of view.now)) (Lsfcmap None (Some 58))) }
+{
+    let command = Command::Lsfcmap {
+        map: None,
+        delim: Some(b':'),
+    };
+    report(alloc, &command, grain, registry, view)
+}
 
 /// The rows of all mappings, as an image has them: those of `lsfcmap -delim :`, without a settling.
 pub fn rows_of(alloc: Global, grain: GrainSize, image: &MetaImage) -> Result<Rows, NoMemory>
@@ -42,21 +66,43 @@ pub fn rows_of(alloc: Global, grain: GrainSize, image: &MetaImage) -> Result<Row
     let changes = Changes::new(alloc);
     let rooms = Rooms::new(alloc);
     let view = PlainView::new(&sheet, registry.all_mappings(), &changes, &[], &rooms);
-    let command = Command::Lsfcmap {
-        map: None,
-        delim: Some(b':'),
-    };
-    report(alloc, &command, grain, &registry, &view)
+    all_rows(alloc, grain, &registry, &view)
+}
+
+/// Puts what was asked and what was answered.
+fn put_answered<K: Sink>(request: &Request, reply: &Reply, sink: &mut K) -> Result<(), Failed>
+    ensures { Written (K.meaning sink.old) (answered_text request.now reply.now) (is_err result) (K.meaning sink.new) }
+{
+    put_request(request, sink)?;
+    put_text(sink, b" -> ")?;
+    put_reply(reply, sink)?;
+    put_text(sink, b"\n")
 }
 
 /// Puts a read and its answer.
 fn put_read<K: Sink>(part: ReadPart, reply: &Reply, sink: &mut K) -> Result<(), Failed>
     ensures { Written (K.meaning sink.old) (read_text part reply.now) (is_err result) (K.meaning sink.new) }
 {
-    put_request(&Request::Read(part), sink)?;
-    put_text(sink, b" -> ")?;
-    put_reply(reply, sink)?;
-    put_text(sink, b"\n")
+    put_answered(&Request::Read(part), reply, sink)
+}
+
+/// Reads the first block of the volume at a place, and puts the answer. A volume without a grain is passed.
+fn put_next<D: Mdisk, K: Sink>(
+    alloc: Global,
+    recovered: &mut Recovered<D>,
+    place: usize,
+    sink: &mut K,
+) -> Result<(), Failed>
+    requires { place < length recovered.old.image.volumes }
+    ensures { NextPut recovered.old recovered.new place (K.meaning sink.old) (is_err result) (K.meaning sink.new) }
+{
+    match recovered.first_block(place) {
+        Some(part) => {
+            let reply = recovered.read(alloc, part);
+            put_read(part, &reply, sink)
+        }
+        None => Ok(()),
+    }
 }
 
 /// Reads the first block of each volume, and puts the answers.
@@ -69,10 +115,7 @@ fn put_reads<D: Mdisk, K: Sink>(
 {
     let volumes = recovered.volumes().len();
     for place in 0..volumes {
-        if let Some(part) = recovered.first_block(place) {
-            let reply = recovered.read(alloc, part);
-            put_read(part, &reply, sink)?;
-        }
+        put_next(alloc, recovered, place, sink)?;
     }
     Ok(())
 }
@@ -101,6 +144,13 @@ impl From<NoMemory> for Unwritten {
     }
 }
 
+/// Puts rows, a line each.
+fn put_lines<K: Sink>(rows: Rows, sink: &mut K) -> Result<(), Failed>
+    ensures { Written (K.meaning sink.old) (lines_text rows) (is_err result) (K.meaning sink.new) }
+{
+    put_reply_rows(&Reply::Listed(rows), sink)
+}
+
 /// Puts the rows of all mappings of an image.
 fn put_rows<K: Sink>(
     alloc: Global,
@@ -112,7 +162,7 @@ fn put_rows<K: Sink>(
     ensures { IsPutOr result (lines_text (rows_in grain image.now)) (K.meaning sink.old) (K.meaning sink.new) }
 {
     let rows = rows_of(alloc, grain, image)?;
-    put_reply_rows(&Reply::Listed(rows), sink)?;
+    put_lines(rows, sink)?;
     Ok(())
 }
 
@@ -139,7 +189,8 @@ fn put_image<D: Mdisk, K: Sink>(
 ) -> (Vec<LaneDisks<D>>, Result<(), Unwritten>)
     requires { CanRecover grain image lanes.items }
     ensures kinds { KeepKinds lanes.items result.0.items }
-    ensures put { StateIsPut result.1 (λ text. IsImageText grain image lanes.items text result.0.items) (K.meaning sink.old) (K.meaning sink.new) }
+    ensures put { StateIsPut result.1 (λ text. IsImageText grain image lanes.items text result.0.items)
+        (K.meaning sink.old) (K.meaning sink.new) }
 {
     match put_rows(alloc, grain, &image, sink) {
         Ok(()) => {}
@@ -173,7 +224,8 @@ pub fn put_state<D: Mdisk, K: Sink>(
     requires good { IsFoundGood (recovered found.bytes) }
     requires can { (image : Said) → recovered found.bytes ≡ FoundImage image → CanRecover grain image lanes.items }
     ensures kinds { KeepKinds lanes.items result.0.items }
-    ensures put { StateIsPut result.1 (λ text. IsStateText grain (recovered found.bytes) lanes.items text result.0.items) (K.meaning sink.old) (K.meaning sink.new) }
+    ensures put { StateIsPut result.1 (λ text. IsStateText grain (recovered found.bytes) lanes.items text result.0.items)
+        (K.meaning sink.old) (K.meaning sink.new) }
 {
     match found_on(alloc, found) {
         Ok(Some(image)) => put_image(alloc, grain, image, lanes, sink),
@@ -191,7 +243,8 @@ pub fn put_first_state<K: Sink>(
 ) -> Result<(), Unwritten>
     requires good { IsFoundGood (recovered found.bytes) }
     requires bare { (image : Said) → recovered found.bytes ≡ FoundImage image → IsSoundImage image × (image.volumes ≡ []) }
-    ensures { StateIsPut result (λ text. IsFirstText grain (recovered found.bytes) text) (K.meaning sink.old) (K.meaning sink.new) }
+    ensures { StateIsPut result (λ text. IsFirstText grain (recovered found.bytes) text)
+        (K.meaning sink.old) (K.meaning sink.new) }
 {
     match found_on(alloc, found)? {
         Some(image) => put_rows(alloc, grain, &image, sink),

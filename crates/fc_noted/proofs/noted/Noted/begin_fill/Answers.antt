@@ -14,7 +14,8 @@ use Rattle.fc_legal.specs.Whole.{Whole}
 use Rattle.fc_marks.specs.Stops.{stop_of_log}
 use Rattle.fc_noted.proofs.Begun.{begun_made, stopped_made}
 use Rattle.fc_noted.proofs.Filling.{fill_can, fill_in_volume, fill_of_lane, fill_request, full_only, worker_of}
-use Rattle.fc_noted.specs.Making.{StepMade}
+use Rattle.fc_noted.proofs.KeepingLanes.{begun_keeps, lanes_go_on, lanes_hold}
+use Rattle.fc_noted.specs.Making.{KeepLanes, StepMade}
 use Rattle.fc_script.specs.Asking.{HasNextFill, work_of}
 use Rattle.fc_script.specs.Script.{agenda_of}
 use Rattle.fc_script.specs.declared.asking.Asked.TheVariants.{Fill}
@@ -71,3 +72,14 @@ returns-clause-made g c =
     c.begin_fill-doing.ensures.others
     (λ w up. subst (λ (r : Request). Asks grain (agenda_of grain old.script) w (0, r)) (fill_request c.args.cleans c.args.map c.args.grain) (c.requires.next w up))
     (λ w up. fill_in_volume grain w c.args.cleans c.args.map c.args.grain) c.in_ok-place.ensures.room)
+
+pub returns-in_err-place-clause-lanes : goal.returns-in_err-place-clause-lanes
+returns-in_err-place-clause-lanes g c = lanes_hold c.args.self.now.store c.ready_lane.new.self c.ready_lane.ensures.kept.grains
+
+pub returns-clause-lanes : goal.returns-clause-lanes
+returns-clause-lanes g c =
+    let place = c.in_ok-place.place in
+    let store = c.begin_fill-doing.new.self in
+    subst (λ n. KeepLanes c.args.self.now.store n.store) (sym c.take_up.ensures)
+    (lanes_go_on c.args.self.now.store c.ready_lane.new.self store (lanes_hold c.args.self.now.store c.ready_lane.new.self c.ready_lane.ensures.kept.grains)
+    (begun_keeps place c.ready_lane.new.self store c.begin_fill-doing.result c.begin_fill-doing.ensures.others c.begin_fill-doing.ensures.begun.way))

@@ -2,7 +2,7 @@
 use Rattle.std.proofs.Common.{Ok, Err, Option, true, subst}
 use Rattle.std.proofs.lemmas.Result.{err_from_is_err_and}
 use Rattle.fc_noted.proofs.Nexts.{made_behind, nothing_next, script_noted, wanted_next}
-use Rattle.fc_script.specs.Asking.{IsNext}
+use Rattle.fc_script.specs.Asking.{IsNext, request_of}
 use Rattle.fc_script.specs.Script.{agenda_of}
 use Rattle.fc_script.specs.declared.asking.Asked.{Asked}
 use Rattle.fc_noted.proofs.noted.Noted.begin_next.Goals as goal
@@ -48,3 +48,11 @@ returns-in-None-clause-made g c =
 pub returns-in_ok-begin-in-Some-clause-made : goal.returns-in_ok-begin-in-Some-clause-made
 returns-in_ok-begin-in-Some-clause-made g c =
     made_behind g.M.MetaDisk.seen g.M.MetaDisk.may_leave g.M.MetaDisk.moment g.M.MetaDisk.left_since g.met.M.MetaDisk.only_now c.args.self.now c.next.new.self c.args.history.now c.requires.at.2.idle c.in_ok-next.ensures.goes c.in_ok-next.ensures.fits (Ok true) c.begin.new.self c.begin.new.history c.in_ok-begin-in-Some.ensures.made
+
+pub returns-in_err-begin-in-Some-clause-full : goal.returns-in_err-begin-in-Some-clause-full
+returns-in_err-begin-in-Some-clause-full g c = λ is w up. (
+  c.next.new.self,
+  request_of c.args.self.now.store.control.grain c.in-Some.asked,
+  c.in_ok-next.ensures.goes w up,
+  subst (λ (o : Option Asked). IsNext c.args.self.now.store.control.grain w o (agenda_of c.args.self.now.store.control.grain c.next.new.self)) c.in-Some.is (c.in_ok-next.ensures.next w up),
+)

@@ -1,5 +1,5 @@
 -- A write begins in the lane of its grain.
-use Rattle.std.proofs.Common.{◌≡◌, None, arith, Err, Ok, List, true, subst, sym, ap, ◌∙◌}
+use Rattle.std.proofs.Common.{◌≡◌, None, arith, Ok, true, subst, sym, ap, ◌∙◌}
 use Rattle.std.proofs.lemmas.Result.{err_from_is_err_and}
 use Rattle.fc_base.specs.declared.request.Request.TheVariants.{Write as WriteBlocks}
 use Rattle.fc_base.specs.declared.request.Request.{Request}
@@ -7,23 +7,25 @@ use Rattle.fc_base.specs.declared.request.WritePart.{WritePart}
 use Rattle.fc_base.specs.declared.size.GrainSize.{GrainSize}
 use Rattle.fc_desk.specs.Control.{ControlState}
 use Rattle.fc_lane.specs.Lane.{LaneView}
+use Rattle.fc_lanes.specs.declared.access.Access.TheVariants.{Write}
 use Rattle.fc_legal.specs.Agenda.{Asks}
 use Rattle.fc_legal.specs.Steps.{after_access}
 use Rattle.fc_legal.specs.Whole.{Whole, lane_of_grain}
 use Rattle.fc_marks.specs.Stops.{stop_of_log}
+use Rattle.fc_noted.proofs.Accessing.{access_by, access_can, access_in_volume, answered_turn, begins_within, ends_within, in_grain, no_effects, number_small, touches_there}
 use Rattle.fc_noted.proofs.Begun.{begun_made, stopped_made}
 use Rattle.fc_noted.proofs.Filling.{full_only}
 use Rattle.fc_noted.proofs.Holding.{one_same}
 use Rattle.fc_noted.proofs.Idle.{idle_made}
-use Rattle.fc_noted.proofs.Writing.{answered_turn, begins_within, ends_within, in_grain, no_effects, number_small, touches_there, write_by, write_can, write_in_volume}
-use Rattle.fc_noted.specs.Making.{StepMade, always}
+use Rattle.fc_noted.proofs.KeepingLanes.{begun_keeps, holds_in_lane, lanes_go_on, lanes_hold, lanes_still}
+use Rattle.fc_noted.specs.Making.{KeepLanes, StepMade, always}
 use Rattle.fc_parts.specs.Law.{IsInVolume}
 use Rattle.fc_rules.specs.LaneRight.{done_write}
 use Rattle.fc_rules.specs.Steps.{HasDoneNothing}
 use Rattle.fc_script.specs.Script.{agenda_of}
 use Rattle.fc_stands.proofs.Turns.{IsTurn}
 use Rattle.fc_stands.specs.Store.{StandsFor, StoreView}
-use Rattle.fc_steps.specs.declared.ask.Ask.TheVariants.{Write}
+use Rattle.fc_steps.specs.declared.ask.Ask.TheVariants.{Write as WriteAsk}
 use Rattle.fc_store.specs.Stepping.{no_lane}
 use Rattle.fc_noted.proofs.noted.Noted.begin_write.Goals as goal
 
@@ -52,7 +54,7 @@ begin_write-requires-clause-there g c = c.in_ok-place.ensures.ready.inside
 
 pub begin_write-requires-clause-can : goal.begin_write-requires-clause-can
 begin_write-requires-clause-can g c =
-    write_can c.ready_lane.new.self c.requires.at.0 (c.ready_lane.ensures.kept.stands c.requires.at.0 c.requires.at.2.told.0) c.args.grain c.in_ok-place.place c.in_ok-place.ensures.ready
+    access_can c.ready_lane.new.self c.requires.at.0 (c.ready_lane.ensures.kept.stands c.requires.at.0 c.requires.at.2.told.0) c.args.grain c.in_ok-place.place c.in_ok-place.ensures.ready
     c.args.volume c.args.block c.args.count c.blocks_in-first.result.0 c.blocks_in-first.result.1 (touches_there c.args.self.now.store.control c.ready_lane.new.self.control c.args.volume c.args.block c.args.count c.args.grain c.ready_lane.ensures.kept.control c.requires.can)
     (in_grain c.ready_lane.new.self.control.grain c.ready_lane.new.self.control.tables c.args.volume c.args.block c.args.count c.args.grain (touches_there c.args.self.now.store.control c.ready_lane.new.self.control c.args.volume c.args.block c.args.count c.args.grain c.ready_lane.ensures.kept.control c.requires.can) c.grain.result c.grain.ensures c.blocks_in-first.result.0 c.blocks_in-first.result.1 c.blocks_in-first.ensures.first c.blocks_in-first.ensures.count)
 
@@ -84,11 +86,11 @@ returns-in-UnderWay-clause-made g c =
     subst (λ n. StepMade g.M.MetaDisk.seen g.M.MetaDisk.may_leave g.M.MetaDisk.moment g.M.MetaDisk.left_since (Ok true) old n history history) (sym c.take_up.ensures)
     (begun_made g.M.MetaDisk.seen g.M.MetaDisk.may_leave g.M.MetaDisk.moment g.M.MetaDisk.left_since g.met.M.MetaDisk.only_now old history c.ready_lane.new.self
     kept.control kept.grains kept.stands c.requires.at.2.idle c.requires.live c.requires.room
-    place c.len.result c.in_ok-place.ensures.ready.inside (Write part) doing store c.in-UnderWay.ensures.begun c.len.ensures c.in-UnderWay.ensures.others
-    (λ w up. subst (λ (r : Request). AsksIt old.store.control.grain r w) (write_by c.ready_lane.new.self.control.grain c.ready_lane.new.self.control.tables c.args.volume c.args.block c.args.count c.args.grain (touches_there c.args.self.now.store.control c.ready_lane.new.self.control c.args.volume c.args.block c.args.count c.args.grain c.ready_lane.ensures.kept.control c.requires.can) c.grain.result c.grain.ensures c.blocks_in-first.result.0 c.blocks_in-first.result.1 c.blocks_in-first.ensures.first c.blocks_in-first.ensures.count c.args.byte old.store.control.grain same) (c.requires.next w up))
+    place c.len.result c.in_ok-place.ensures.ready.inside (WriteAsk part) doing store c.in-UnderWay.ensures.begun c.len.ensures c.in-UnderWay.ensures.others
+    (λ w up. subst (λ (r : Request). AsksIt old.store.control.grain r w) (access_by c.ready_lane.new.self.control.grain c.ready_lane.new.self.control.tables c.args.volume c.args.block c.args.count c.args.grain (touches_there c.args.self.now.store.control c.ready_lane.new.self.control c.args.volume c.args.block c.args.count c.args.grain c.ready_lane.ensures.kept.control c.requires.can) c.grain.result c.grain.ensures c.blocks_in-first.result.0 c.blocks_in-first.result.1 c.blocks_in-first.ensures.first c.blocks_in-first.ensures.count (Write c.args.byte) old.store.control.grain same) (c.requires.next w up))
     (λ w up.
     subst (λ (z : GrainSize). IsInVolume z w (WriteBlocks part)) same
-    (write_in_volume c.ready_lane.new.self.control.grain c.ready_lane.new.self.control.tables c.args.volume c.args.block c.args.count c.args.grain (touches_there c.args.self.now.store.control c.ready_lane.new.self.control c.args.volume c.args.block c.args.count c.args.grain c.ready_lane.ensures.kept.control c.requires.can) c.grain.result c.grain.ensures c.blocks_in-first.result.0 c.blocks_in-first.result.1 c.blocks_in-first.ensures.first c.blocks_in-first.ensures.count c.args.byte w (ap (λ (z : ControlState). z.tables) kept.control ∙ up.control.tables)))
+    (access_in_volume c.ready_lane.new.self.control.grain c.ready_lane.new.self.control.tables c.args.volume c.args.block c.args.count c.args.grain (touches_there c.args.self.now.store.control c.ready_lane.new.self.control c.args.volume c.args.block c.args.count c.args.grain c.ready_lane.ensures.kept.control c.requires.can) c.grain.result c.grain.ensures c.blocks_in-first.result.0 c.blocks_in-first.result.1 c.blocks_in-first.ensures.first c.blocks_in-first.ensures.count (Write c.args.byte) w (ap (λ (z : ControlState). z.tables) kept.control ∙ up.control.tables)))
     c.in_ok-place.ensures.room)
 
 pub log_entry-requires-clause-stands : goal.log_entry-requires-clause-stands
@@ -106,7 +108,7 @@ log_entry-requires-clause-stands g c =
     let within = in_grain c.ready_lane.new.self.control.grain c.ready_lane.new.self.control.tables c.args.volume c.args.block c.args.count c.args.grain touches c.grain.result c.grain.ensures c.blocks_in-first.result.0 c.blocks_in-first.result.1 c.blocks_in-first.ensures.first c.blocks_in-first.ensures.count in
     let w : Whole = c.requires.at.0 in
     let told = c.requires.at.2.told in
-    let turn = answered_turn c.ready_lane.new.self w (kept.stands w told.0) c.args.grain place c.in_ok-place.ensures.ready c.args.volume c.args.block c.args.count c.blocks_in-first.result.0 c.blocks_in-first.result.1 touches within c.args.byte c.len.result entry store begun.0 is (omega (arith, nothing.calls)) (told.1.entries ∙ sym c.len.ensures) in
+    let turn = answered_turn c.ready_lane.new.self w (kept.stands w told.0) c.args.grain place c.in_ok-place.ensures.ready c.args.volume c.args.block c.args.count c.blocks_in-first.result.0 c.blocks_in-first.result.1 touches within (Write c.args.byte) c.len.result entry store begun.0 is (omega (arith, nothing.calls)) (told.1.entries ∙ sym c.len.ensures) in
     (after_access c.ready_lane.new.self.control.grain w (lane_of_grain w c.args.grain) entry, turn.stands)
 
 pub returns-in-Answered-clause-made : goal.returns-in-Answered-clause-made
@@ -136,8 +138,29 @@ returns-in-Answered-clause-made g c =
       nothing = nothing;
       unwritten = unwritten;
       no_effects = no_effects c.ready_lane.new.self at.0 (kept.stands at.0 at.2.told.0) c.args.grain place c.in_ok-place.ensures.ready c.args.volume c.args.block c.args.count c.blocks_in-first.result.0 c.blocks_in-first.result.1
-          touches within c.args.byte c.len.result entry store begun.0 is (omega (arith, nothing.calls)) (at.2.told.1.entries ∙ sym c.len.ensures);
+          touches within (Write c.args.byte) c.len.result entry store begun.0 is (omega (arith, nothing.calls)) (at.2.told.1.entries ∙ sym c.len.ensures);
       turns = λ w least h.
-          (lane_of_grain w c.args.grain, subst (λ (z : ControlState). IsTurnBy z w) kept.control (answered_turn c.ready_lane.new.self w (kept.stands w h.told.0) c.args.grain place c.in_ok-place.ensures.ready c.args.volume c.args.block c.args.count c.blocks_in-first.result.0 c.blocks_in-first.result.1 touches within c.args.byte c.len.result entry store begun.0 is (omega (arith, nothing.calls)) (h.told.1.entries ∙ sym c.len.ensures)));
-      asks = λ w up. subst (λ (r : Request). AsksIt old.store.control.grain r w) (write_by c.ready_lane.new.self.control.grain c.ready_lane.new.self.control.tables c.args.volume c.args.block c.args.count c.args.grain (touches_there c.args.self.now.store.control c.ready_lane.new.self.control c.args.volume c.args.block c.args.count c.args.grain c.ready_lane.ensures.kept.control c.requires.can) c.grain.result c.grain.ensures c.blocks_in-first.result.0 c.blocks_in-first.result.1 c.blocks_in-first.ensures.first c.blocks_in-first.ensures.count c.args.byte old.store.control.grain same) (c.requires.next w up);
+          (lane_of_grain w c.args.grain, subst (λ (z : ControlState). IsTurnBy z w) kept.control (answered_turn c.ready_lane.new.self w (kept.stands w h.told.0) c.args.grain place c.in_ok-place.ensures.ready c.args.volume c.args.block c.args.count c.blocks_in-first.result.0 c.blocks_in-first.result.1 touches within (Write c.args.byte) c.len.result entry store begun.0 is (omega (arith, nothing.calls)) (h.told.1.entries ∙ sym c.len.ensures)));
+      asks = λ w up. subst (λ (r : Request). AsksIt old.store.control.grain r w) (access_by c.ready_lane.new.self.control.grain c.ready_lane.new.self.control.tables c.args.volume c.args.block c.args.count c.args.grain (touches_there c.args.self.now.store.control c.ready_lane.new.self.control c.args.volume c.args.block c.args.count c.args.grain c.ready_lane.ensures.kept.control c.requires.can) c.grain.result c.grain.ensures c.blocks_in-first.result.0 c.blocks_in-first.result.1 c.blocks_in-first.ensures.first c.blocks_in-first.ensures.count (Write c.args.byte) old.store.control.grain same) (c.requires.next w up);
     }) c.log_entry.ensures.logged c.log_entry.ensures.goes c.log_entry.ensures.unlogged c.log_entry.ensures.stop)
+
+pub returns-in_err-place-clause-lanes : goal.returns-in_err-place-clause-lanes
+returns-in_err-place-clause-lanes g c = lanes_hold c.args.self.now.store c.ready_lane.new.self c.ready_lane.ensures.kept.grains
+
+pub returns-in-UnderWay-clause-lanes : goal.returns-in-UnderWay-clause-lanes
+returns-in-UnderWay-clause-lanes g c =
+    let old = c.args.self.now.store in
+    let roomy = c.ready_lane.new.self in
+    let store = c.begin_write.new.self in
+    subst (λ n. KeepLanes c.args.self.now.store n.store) (sym c.take_up.ensures)
+    (lanes_go_on old roomy store (lanes_hold old roomy c.ready_lane.ensures.kept.grains) (begun_keeps c.in_ok-place.place roomy store c.in-UnderWay.doing c.in-UnderWay.ensures.others c.in-UnderWay.ensures.begun.way))
+
+pub returns-in-Answered-clause-lanes : goal.returns-in-Answered-clause-lanes
+returns-in-Answered-clause-lanes g c =
+    let old = c.args.self.now.store in
+    let roomy = c.ready_lane.new.self in
+    let store = c.begin_write.new.self in
+    lanes_go_on old store c.log_entry.new.self.store
+    (lanes_go_on old roomy store (lanes_hold old roomy c.ready_lane.ensures.kept.grains)
+    (holds_in_lane c.in_ok-place.place roomy store c.in-Answered.ensures.others (ap (λ (z : LaneView). z.grains) c.in-Answered.ensures.begun.1)))
+    (lanes_still store c.log_entry.new.self.store (ap (λ n. n.store) c.log_entry.ensures.others))

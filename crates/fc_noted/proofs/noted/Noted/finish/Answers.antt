@@ -5,6 +5,7 @@ use Rattle.fc_legal.specs.Steps.{after_access}
 use Rattle.law_noted.proofs.HandEnds.{told_of}
 use Rattle.law_noted.specs.Going.{marks_left}
 use Rattle.fc_noted.proofs.Ended.{doing_taken, finish_made, stands_next}
+use Rattle.fc_noted.proofs.KeepingLanes.{holds_in_lane, lanes_go_on, lanes_still}
 use Rattle.fc_noted.proofs.noted.Noted.finish.Goals as goal
 
 pub log_entry-requires-clause-stands : goal.log_entry-requires-clause-stands
@@ -24,3 +25,9 @@ returns-clause-made g c =
     c.finish-entry.ensures.entry c.finish-entry.ensures.grains c.finish-entry.ensures.others g.M.MetaDisk.moment g.M.MetaDisk.left_since g.met.M.MetaDisk.only_now c.requires.live c.requires.taken
     c.forget_noted.new.marks (c.forget_noted.ensures ∙ ap (λ (o : Option VolId). marks_left o c.args.way.doing.steps.grain c.args.self.now.marks.items) c.volume_noted-written.ensures) c.log_entry.new.self c.log_entry.ensures.others c.log_entry.result c.args.history.now c.log_entry.new.history
     c.log_entry.ensures.logged c.log_entry.ensures.goes c.log_entry.ensures.unlogged c.log_entry.ensures.stop
+
+pub returns-clause-lanes : goal.returns-clause-lanes
+returns-clause-lanes g c =
+    lanes_go_on c.args.self.now.store c.finish-entry.new.self c.log_entry.new.self.store
+    (holds_in_lane c.args.way.place c.args.self.now.store c.finish-entry.new.self c.finish-entry.ensures.others c.finish-entry.ensures.grains)
+    (lanes_still c.finish-entry.new.self c.log_entry.new.self.store (ap (λ n. n.store) c.log_entry.ensures.others))

@@ -8,6 +8,7 @@ use Rattle.fc_marks.specs.declared.error.NotedStop.{NotedStop}
 use Rattle.fc_marks.specs.declared.error.NotedStop.TheVariants.{NoMemory as WantsMemory}
 use Rattle.fc_noted.proofs.Data.{seen_lane}
 use Rattle.fc_noted.proofs.Marked.{mark_failed, mark_made_by, mark_refused, wants_is}
+use Rattle.fc_noted.proofs.KeepingLanes.{lanes_stay}
 use Rattle.fc_noted.proofs.noted.Noted.own.Goals as goal
 
 pub returns-in_err-remember-clause-made : goal.returns-in_err-remember-clause-made
@@ -34,3 +35,12 @@ returns-clause-made g c =
     (c.rows-rows.ensures ∙ (ap (λ (z : ChangesState). z.rows) c.changes.ensures ∙ ap (λ (v : LaneView). v.changes.rows) seen)) c.as_slice.ensures.value c.wants_mark.ensures c.if-not-wants_mark.false in
     mark_made_by g.M.MetaDisk.seen g.M.MetaDisk.may_leave g.M.MetaDisk.moment g.M.MetaDisk.left_since g.met.M.MetaDisk.counts_now c.args.self.now c.args.way c.args.part c.requires.due c.requires.live c.requires.next wants
     c.put_record.new.meta c.remember.new.marks c.in_ok-remember.ensures.ok c.in_ok-put_record.ensures.any_moment c.in_ok-put_record.ensures.rests c.in_ok-put_record.ensures.found
+
+pub returns-in_err-remember-clause-lanes : goal.returns-in_err-remember-clause-lanes
+returns-in_err-remember-clause-lanes g c = lanes_stay c.args.self.now.store
+
+pub returns-in_err-put_record-clause-lanes : goal.returns-in_err-put_record-clause-lanes
+returns-in_err-put_record-clause-lanes g c = lanes_stay c.args.self.now.store
+
+pub returns-clause-lanes : goal.returns-clause-lanes
+returns-clause-lanes g c = lanes_stay c.args.self.now.store

@@ -1,5 +1,5 @@
 use Rattle.fc_noted.proofs.Lines.{Comes}
-use Rattle.fc_noted.proofs.noted.Noted.run_line.Given as goal
+use Rattle.fc_noted.proofs.noted.Noted.make_all.Given as goal
 
 -- the steps so far brought the script of the line to what is left of it
 abbrev pub invariant-steps : goal.invariant-steps

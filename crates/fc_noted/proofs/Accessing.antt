@@ -1,10 +1,9 @@
--- A write that is next can begin in the lane of its grain.
-use Rattle.std.proofs.Common.{◌≡◌, ℕ, ◌+◌, ◌-◌, ◌*◌, ◌%◌, ◌^◌, ◌<◌, Contains, List, [], length, slice_index_or, refl, sym, ap, subst, ◌∙◌}
+-- An access that is next can be made in the lane of its grain.
+use Rattle.std.proofs.Common.{◌≡◌, ℕ, ◌+◌, ◌-◌, ◌*◌, ◌^◌, ◌<◌, Contains, [], slice_index_or, refl, sym, subst}
 use Rattle.std.proofs.lemmas.List.{get_or_default}
 use Rattle.fc_base.specs.Grain.{grain_blocks}
 use Rattle.fc_base.specs.Tables.{Tables}
 use Rattle.fc_base.specs.declared.ids.VolId.{VolId}
-use Rattle.fc_base.specs.declared.request.Request.TheVariants.{Write as WriteBlocks}
 use Rattle.fc_base.specs.declared.size.GrainSize.{GrainSize}
 use Rattle.fc_desk.specs.Control.{ControlState}
 use Rattle.fc_entry.specs.Picture.{grain_of_block}
@@ -12,8 +11,8 @@ use Rattle.fc_entry.specs.declared.entry.Entry.{Entry}
 use Rattle.fc_follow.specs.Following.{Followed}
 use Rattle.fc_lane.specs.Entering.{HasFollowed}
 use Rattle.fc_lane.specs.Lane.{IsFollowing, LaneView, of}
-use Rattle.fc_lanes.specs.Asking.{part_of}
-use Rattle.fc_lanes.specs.declared.access.Access.TheVariants.{Write}
+use Rattle.fc_lanes.specs.Asking.{part_of, request_of}
+use Rattle.fc_lanes.specs.declared.access.Access.{Access}
 use Rattle.fc_legal.specs.Asked.{end_in, first_in}
 use Rattle.fc_legal.specs.Steps.{after_access}
 use Rattle.fc_legal.specs.Whole.{Whole, lane_of_grain}
@@ -46,37 +45,37 @@ module _ (grain : GrainSize) (tables : Tables) (volume : VolId) (block count g :
     pub number_small : g < 2 ^ 32 → grain_of_block grain first < 2 ^ 32
     number_small small = subst (λ (n : ℕ). n < 2 ^ 32) (sym in_grain.of_grain) small
 
-    pub write_is : (byte : ℕ) → part_of grain (Write byte) volume block count g ≡ WriteBlocks (record { volume = volume; block = first; count = many; byte = byte })
-    write_is byte = sym (is_part_of grain size (Write byte) volume block count g first many sized is_first is_many)
+    pub access_is : (access : Access) → part_of grain access volume block count g ≡ request_of access volume first many
+    access_is access = sym (is_part_of grain size access volume block count g first many sized is_first is_many)
 
     -- by a grain that is the same
-    pub write_by : (byte : ℕ) (old : GrainSize) → grain ≡ old → part_of old (Write byte) volume block count g ≡ WriteBlocks (record { volume = volume; block = first; count = many; byte = byte })
-    write_by byte old same = subst (λ (z : GrainSize). part_of z (Write byte) volume block count g ≡ WriteBlocks (record { volume = volume; block = first; count = many; byte = byte })) same (write_is byte)
+    pub access_by : (access : Access) (old : GrainSize) → grain ≡ old → part_of old access volume block count g ≡ request_of access volume first many
+    access_by access old same = subst (λ (z : GrainSize). part_of z access volume block count g ≡ request_of access volume first many) same (access_is access)
 
-    pub write_in_volume : (byte : ℕ) (w : Whole) → tables ≡ w.books.tables → IsInVolume grain w (WriteBlocks (record { volume = volume; block = first; count = many; byte = byte }))
-    write_in_volume byte w same =
-        inside_of grain w (Write byte) volume first many (is_inside grain w volume t.of first many g (subst (λ (z : Tables). Contains z.volumes t.of) same t.there) t.id_is in_grain t.inside)
+    pub access_in_volume : (access : Access) (w : Whole) → tables ≡ w.books.tables → IsInVolume grain w (request_of access volume first many)
+    access_in_volume access w same =
+        inside_of grain w access volume first many (is_inside grain w volume t.of first many g (subst (λ (z : Tables). Contains z.volumes t.of) same t.there) t.id_is in_grain t.inside)
 
 module _ (s : StoreView) (w : Whole) (stands : StandsFor s w) (g place : ℕ) (ready : IsReadyAt s g place) where
   lane_is : lane_in s place ≡ slice_index_or s.lanes place (lane_in s place)
   lane_is = get_or_default s.lanes place no_lane (lane_in s place) ready.inside
 
-  pub write_can : (volume : VolId) (block count first many : ℕ) (t : TouchesGrain s.control.grain s.control.tables volume block count g) → IsInGrain s.control.grain first many g →
+  pub access_can : (volume : VolId) (block count first many : ℕ) (t : TouchesGrain s.control.grain s.control.tables volume block count g) → IsInGrain s.control.grain first many g →
       (f : Followed) × IsFollowing (lane_in s place) f × FitsPart (of (lane_in s place)) f.told volume first many
-  write_can volume block count first many t within =
+  access_can volume block count first many t within =
       let lane : LaneView = lane_in s place in
       can_access s w g place lane lane lane.plan_room lane.entry_room stands ready.at lane_is refl t.of volume first many t.there t.id_is within t.inside
 
-  -- it was answered at once: nothing was done, and the history goes on with its entry
-  module _ (volume : VolId) (block count first many : ℕ) (t : TouchesGrain s.control.grain s.control.tables volume block count g) (within : IsInGrain s.control.grain first many g) (byte number : ℕ) (entry : Entry) (then : StoreView)
-      (followed : HasFollowed (lane_in s place) (λ told. FitsPart (of (lane_in s place)) told volume first many) number 0 (WriteBlocks (record { volume = volume; block = first; count = many; byte = byte })) entry (lane_in then place))
+  -- it was answered at once, and the history goes on with its entry
+  module _ (volume : VolId) (block count first many : ℕ) (t : TouchesGrain s.control.grain s.control.tables volume block count g) (within : IsInGrain s.control.grain first many g) (access : Access) (number : ℕ) (entry : Entry) (then : StoreView)
+      (followed : HasFollowed (lane_in s place) (λ told. FitsPart (of (lane_in s place)) told volume first many) number 0 (request_of access volume first many) entry (lane_in then place))
       (is : IsInLane place s then) (few : entry.calls < 2 ^ 32) (counted : w.entries ≡ number) where
-    pub answered_turn : IsTurn (StandsFor then) s.control.grain w (WriteBlocks (record { volume = volume; block = first; count = many; byte = byte })) entry (after_access s.control.grain w (lane_of_grain w g) entry)
+    pub answered_turn : IsTurn (StandsFor then) s.control.grain w (request_of access volume first many) entry (after_access s.control.grain w (lane_of_grain w g) entry)
     answered_turn =
         let lane : LaneView = lane_in s place in
-        subst (λ (x : StoreView). IsTurn (StandsFor x) s.control.grain w (WriteBlocks (record { volume = volume; block = first; count = many; byte = byte })) entry (after_access s.control.grain w (lane_of_grain w g) entry)) (sym is)
-        (turn s w g place lane lane lane.plan_room lane.entry_room stands ready.at lane_is refl t.of volume (Write byte) first many number entry (lane_in then place) t.there t.id_is within t.inside
+        subst (λ (x : StoreView). IsTurn (StandsFor x) s.control.grain w (request_of access volume first many) entry (after_access s.control.grain w (lane_of_grain w g) entry)) (sym is)
+        (turn s w g place lane lane lane.plan_room lane.entry_room stands ready.at lane_is refl t.of volume access first many number entry (lane_in then place) t.there t.id_is within t.inside
         followed.right followed.asked followed.same few counted)
 
     pub no_effects : entry.effects ≡ []
-    no_effects = let can = write_can volume block count first many t within in (followed.right can.0 can.1 can.2).0.no_effects
+    no_effects = let can = access_can volume block count first many t within in (followed.right can.0 can.1 can.2).0.no_effects

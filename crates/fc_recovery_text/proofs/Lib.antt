@@ -1,0 +1,8 @@
+-- What more than one proof needs.
+pub mod Adding
+pub mod Asking
+pub mod Slots
+pub mod DiskKinds
+pub mod Reading
+pub mod Parts
+pub mod States
