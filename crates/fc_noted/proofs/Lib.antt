@@ -33,3 +33,9 @@ mod Still
 mod Telling
 mod Tidying
 mod Commanding
+mod CommandLanes
+mod Planned
+mod CommandStops
+mod CommandLeads
+mod CommandLogs
+mod CommandEntry

@@ -1,7 +1,12 @@
 -- What a step makes, and what it leaves.
 use Rattle.std.specs.Prelude.{◌+◌, ◌≡◌, ◌⊎◌, ℕ, ◌≤◌, ◌/◌, Bool, true, false, List, [], ◌∷◌, ◌++◌, length, Some, None, Result, Ok, Err, IfOk, OnErr, IsErrOf, Contains, map, ◌<◌}
+use Rattle.fc_apart.specs.Effects.{IsJoined}
+use Rattle.fc_base.specs.declared.command.Command.{Command}
 use Rattle.fc_base.specs.declared.decision.Decision.{Decision}
 use Rattle.fc_base.specs.declared.ids.VolId.{VolId}
+use Rattle.fc_base.specs.declared.request.Effect.{Effect}
+use Rattle.fc_base.specs.declared.request.Place.TheVariants.{Every}
+use Rattle.fc_base.specs.declared.request.Request.TheVariants.{Command as Asked}
 use Rattle.fc_base.specs.declared.size.GrainSize.{GrainSize}
 use Rattle.fc_base.specs.declared.volume.Volume.{Volume}
 use Rattle.fc_changed.specs.Row.{Row}
@@ -27,6 +32,7 @@ use Rattle.fc_script.specs.Asking.{IsAnswer, IsLeft}
 use Rattle.fc_script.specs.Passage.{GoesOn}
 use Rattle.fc_script.specs.Script.{agenda_of}
 use Rattle.fc_script.specs.declared.script.Script.{Script}
+use Rattle.fc_stands.specs.Apart.{entry_apart}
 use Rattle.fc_stands.specs.Phase.{StandsAt}
 use Rattle.fc_stands.specs.Store.{StandsFor, StoreView}
 use Rattle.law_crash.specs.Points.{Point}
@@ -153,6 +159,10 @@ IsImageWithout gone s image = (w : Whole) → StandsFor s w → image ≡ withou
 pub data IsImageAfter (s : StoreView) (d : Decision) (image : MetaImage) : Type 0 where
   acted : (new : StoreView) → HasActed d s new → removed_by d.events ≡ None → IsImageOf new image → IsImageAfter s d image
   about : (now : StoreView) (gone : VolId) → HasStayed s now → removed_by d.events ≡ Some gone → IsImageWithout gone now image → IsImageAfter s d image
+
+-- The entry of a command that was decided so, whatever was settled before it: with the effects of both.
+abbrev pub IsEntryOf : Command → Decision → List Effect → Entry → Type 0
+IsEntryOf command d joined entry = (settled : List Effect) → IsJoined settled d.effects joined → entry ≡ entry_apart 0 0 Every (Asked command) d.reply (settled ++ d.effects)
 
 -- Behind an error the decision isn't done, or no volume went by it.
 abbrev pub MayHaveActed : Decision → StoreView → StoreView → Type 0
