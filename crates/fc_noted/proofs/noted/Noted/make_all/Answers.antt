@@ -1,5 +1,5 @@
 -- Step by step.
-use Rattle.std.proofs.Common.{Bool, List, true, false, subst}
+use Rattle.std.proofs.Common.{Bool, List, subst}
 use Rattle.fc_changed.specs.Row.{Row}
 use Rattle.fc_legal.specs.Whole.{Whole}
 use Rattle.fc_noted.proofs.Halting.{halted, halted_limit, halted_on}
