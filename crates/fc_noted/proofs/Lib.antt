@@ -26,10 +26,16 @@ mod Opening
 mod Putting
 mod Reading
 mod Refusing
-mod Resting
+pub mod Resting
 mod Standing
 mod Stepping
 mod Still
 mod Telling
 mod Tidying
 mod Commanding
+mod CommandLanes
+mod Planned
+mod CommandStops
+mod CommandLeads
+mod CommandLogs
+mod CommandEntry

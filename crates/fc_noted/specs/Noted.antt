@@ -1,6 +1,5 @@
 -- When a noted store stands for a history.
 use Rattle.std.specs.Prelude.{◌≡◌, ◌⊎◌, ℕ, ◌<◌, ◌≤◌, ◌^◌, All, Bool, true, false, List, [], ◌∷◌, ◌++◌, codes, length, slice_set, Option, Some, None}
-use Rattle.fc_base.specs.Pools.{Pool}
 use Rattle.fc_base.specs.declared.limits.TheConstants.{LANES}
 use Rattle.fc_base.specs.declared.size.GrainSize.{GrainSize}
 use Rattle.fc_changed.specs.Row.{Row}
@@ -10,9 +9,7 @@ use Rattle.fc_format.specs.Halves.{Image}
 use Rattle.fc_format.specs.Ranges.{HasGoodIds}
 use Rattle.fc_image.specs.declared.image.MetaImage.{MetaImage}
 use Rattle.fc_image.specs.declared.record.MetaRecord.{MetaRecord}
-use Rattle.fc_kept.specs.Disks.{NamedDisk}
 use Rattle.fc_kept.specs.Images.{kept_in}
-use Rattle.fc_kept.specs.Kept.{Kept, kept_after}
 use Rattle.fc_kept.specs.Prefix.{AreStepsOf}
 use Rattle.fc_kept.specs.Sound.{IsSoundImage}
 use Rattle.fc_lane.specs.Doing.{IsUnderWay}
@@ -32,9 +29,7 @@ use Rattle.fc_script.specs.declared.script.Script.{Script}
 use Rattle.fc_stands.specs.Store.{StandsFor, StoreView}
 use Rattle.fc_steps.specs.Asking.{request_of}
 use Rattle.fc_store.specs.Stepping.{lane_in}
-use Rattle.law_crash.specs.Leaving.{AreUnnamed, HaveTheirDisks}
-use Rattle.law_crash.specs.Points.{Point, nothing_kept}
-use Rattle.law_crash.specs.Running.{Run}
+use Rattle.law_crash.specs.Points.{Point}
 use Rattle.law_noted.specs.Came.{Came, steps_done}
 use Rattle.law_noted.specs.Records.{kept_by}
 use Rattle.law_noted.specs.Runs.{HasRun}

@@ -1,11 +1,10 @@
 //! Commands.
 
-ghost use Rattle.std.specs.Prelude.{◌≡◌, ◌+◌, ◌<◌, ◌≤◌, ◌||◌, ◌++◌, [], ℕ, List as Items, Some, length, true, is_some, IfOk, OnErr, OnOk};
-ghost use Rattle.fc_base.specs.declared.request.Effect.{Effect as EffectValue};
-ghost use Rattle.fc_apart.specs.Effects.{IsJoined};
+ghost use Rattle.std.specs.Prelude.{◌≡◌, ◌+◌, ◌<◌, ◌≤◌, ◌||◌, [], ℕ, List, Some, length, true, is_some, IfOk, IsErrOf, OnErr, OnOk};
 ghost use Rattle.fc_books.specs.Deciding.{settle};
 ghost use Rattle.fc_changed.specs.Row.{Row};
 ghost use Rattle.fc_entry.specs.HistoryState.{HistoryState};
+ghost use Rattle.fc_entry.specs.declared.entry.Entry.{Entry as EntryValue};
 ghost use Rattle.fc_format.specs.Halves.{Image};
 ghost use Rattle.fc_format.specs.Ranges.{HasGoodIds};
 ghost use Rattle.fc_image.specs.declared.image.MetaImage.{MetaImage as ImageValue};
@@ -17,13 +16,12 @@ ghost use Rattle.fc_legal.specs.Whole.{Whole};
 ghost use Rattle.fc_meta.specs.Answers.{LeavesEither};
 ghost use Rattle.fc_meta.specs.States.{IsResting, disk_of, found};
 ghost use Rattle.fc_metadisk.specs.Disk.{LeavesOnly};
-ghost use Rattle.fc_noted.specs.Making.{AnewOr, HasActed, IsImageAfter, LeadsOn, LeavesAnew, MayHaveActed, StepMade, always};
+ghost use Rattle.fc_noted.specs.Making.{AnewOr, HasActed, IsEntryOf, IsImageAfter, KeepLanes, LeadsOn, LeavesAnew, MayHaveActed, StepMade, always};
 ghost use Rattle.fc_noted.specs.Noted.{IsNotedAt};
 ghost use Rattle.law_noted.specs.Records.{removed_by};
 ghost use Rattle.fc_noted.specs.Stopping.{HasStopped, LeavesRecoverable};
 ghost use Rattle.fc_script.specs.Asking.{CanBeAsked, IsNext};
 ghost use Rattle.fc_script.specs.Script.{agenda_of};
-ghost use Rattle.fc_stands.specs.Apart.{entry_apart};
 ghost use Rattle.fc_stands.specs.Phase.{CanPrepare, IsDecided, StandsAt};
 ghost use Rattle.fc_stands.specs.Settling.{AreFew, CanSettle};
 ghost use Rattle.fc_stands.specs.Store.{StandsFor};
@@ -45,6 +43,7 @@ use fc_marks::NotedStop;
 use fc_mdisk::mdisk::Mdisk;
 use fc_metadisk::MetaDisk;
 use fc_script::asking::Asked;
+use law_commanded::commanded_law;
 use std::alloc::Global;
 
 /// Whether a decision has effects, or changes the tables.
@@ -52,6 +51,13 @@ fn has_effect(decision: &Decision) -> bool
     ensures { result ≡ has_effect decision.now }
 {
     decision.effects.len() != 0 || decision.changes.len() != 0
+}
+
+/// Whether the settling or what is decided after it does.
+fn have_effect(settling: &Decision, decision: &Decision) -> bool
+    ensures { result ≡ (has_effect settling.now || has_effect decision.now) }
+{
+    has_effect(settling) || has_effect(decision)
 }
 
 /// The volume that goes by a decision, if one does.
@@ -80,6 +86,7 @@ impl<D: Mdisk, M: MetaDisk> Noted<D, M> {
         requires next { (w : Whole) → StandsFor self.old.store w → IsNext self.old.store.control.grain w (Some (Asked.Command command)) (agenda_of self.old.store.control.grain self.old.script) }
         requires can { CanBeAsked self.old.store (Asked.Command command) }
         ensures made { StepMade M.seen M.may_leave M.moment M.left_since (always result) self.old self.new history.old history.new }
+        ensures lanes { KeepLanes self.old.store self.new.store }
         ensures live { self.new.live ≡ self.old.live }
     {
         if is_full(history) {
@@ -100,6 +107,7 @@ impl<D: Mdisk, M: MetaDisk> Noted<D, M> {
             (LeavesEither (found M.seen self.old.meta) (Image image.now)) }
         ensures named { OnOk result ((self.new.named ≡ image.now.next_volume) × (self.new.marks.items ≡ [])) }
         ensures kept { OnErr result ((self.new.named ≡ self.old.named) × (self.new.marks.items ≡ self.old.marks.items)) }
+        ensures not_log { IsErrOf result NotedStop.LogFull → ⊥ }
         ensures others { self.new ≡ record self.old { meta = self.new.meta; named = self.new.named; marks = self.new.marks } }
     {
         self.meta.fold(self.alloc, image)?;
@@ -116,6 +124,7 @@ impl<D: Mdisk, M: MetaDisk> Noted<D, M> {
         ensures starved { OnErr result ((decisions : ℕ) (w : Whole) → StandsAt decisions self.old.store w → StandsAt decisions self.new.store w) }
         ensures grain { self.new.store.control.grain ≡ self.old.store.control.grain }
         ensures lanes { EachLane IsSameLane self.old.store.lanes self.new.store.lanes }
+        ensures not_log { IsErrOf result NotedStop.LogFull → ⊥ }
         ensures others { self.new ≡ record self.old { store = self.new.store } }
     {
         let settling = self.store.plan_settling()?;
@@ -135,6 +144,7 @@ impl<D: Mdisk, M: MetaDisk> Noted<D, M> {
         ensures kept { OnErr result ((self.new.named ≡ self.old.named) × (self.new.marks.items ≡ self.old.marks.items)) }
         ensures anew { OnOk result (AnewOr M.seen M.may_leave (has_action || is_some (removed_by decision.now.events)) decision.now self.old self.new) }
         ensures any_moment { LeavesOnly M.moment M.left_since (disk_of self.old.meta) (disk_of self.new.meta) (LeavesAnew M.seen M.may_leave decision.now self.old) }
+        ensures not_log { IsErrOf result NotedStop.LogFull → ⊥ }
         ensures others { self.new ≡ record self.old { store = self.new.store; meta = self.new.meta; named = self.new.named; marks = self.new.marks } }
     {
         self.store.reserve_all(decision)?;
@@ -157,31 +167,70 @@ impl<D: Mdisk, M: MetaDisk> Noted<D, M> {
         Ok(())
     }
 
-    /// The entry of a command that is done.
+    /// The entry of a command that is done: it leads on to what the noted store then stands for, once it is logged. Until then, and
+    /// behind an error, a stop leaves what may be recovered with the command as one that is asked.
     fn command_entry(&mut self, command: Command) -> Result<Entry, NotedStop>
-        requires at { (w : Whole) × (least : List Row) × (history : HistoryState) × IsNotedAt M.seen M.may_leave self.old history w least × (length history.entries < 262144) }
-        requires next { (w : Whole) → StandsFor self.old.store w → IsNext self.old.store.control.grain w (Some (Asked.Command command)) (agenda_of self.old.store.control.grain self.old.script) }
+        requires at { (w : Whole) × (least : List Row) × (history : HistoryState) ×
+            IsNotedAt M.seen M.may_leave self.old history w least × (length history.entries < 262144) }
+        requires next { (w : Whole) → StandsFor self.old.store w →
+            IsNext self.old.store.control.grain w (Some (Asked.Command command)) (agenda_of self.old.store.control.grain self.old.script) }
         requires decided { IsDecided command }
-        ensures leads { IfOk result (λ entry. (history : HistoryState) → length history.entries < 262144 → LeadsOn M.seen M.may_leave self.old history entry self.new) }
+        ensures leads { IfOk result (λ entry.
+            (history : HistoryState) → length history.entries < 262144 → LeadsOn M.seen M.may_leave self.old history entry self.new) }
         ensures asked { IfOk result (λ entry. IsAsked 0 0 (Request.Command command) entry) }
-        ensures any_moment { (history : HistoryState) (w : Whole) (least : List Row) → length history.entries < 262144 → IsNotedAt M.seen M.may_leave self.old history w least →
+        ensures any_moment { (history : HistoryState) (w : Whole) (least : List Row) →
+            length history.entries < 262144 → IsNotedAt M.seen M.may_leave self.old history w least →
             LeavesOnly M.moment M.left_since (disk_of self.old.meta) (disk_of self.new.meta) (LeavesRecoverable self.old self.new w least) }
-        ensures stopped { OnErr result ((history : HistoryState) (w : Whole) (least : List Row) → length history.entries < 262144 → IsNotedAt M.seen M.may_leave self.old history w least → HasStopped M.may_leave self.old self.new w least) }
+        ensures stopped { (history : HistoryState) (w : Whole) (least : List Row) →
+            length history.entries < 262144 → IsNotedAt M.seen M.may_leave self.old history w least →
+            HasStopped M.may_leave self.old self.new w least }
+        ensures not_log { IsErrOf result NotedStop.LogFull → ⊥ }
+        ensures grain { OnOk result (self.new.store.control.grain ≡ self.old.store.control.grain) }
+        ensures lanes { EachLane IsSameLane self.old.store.lanes self.new.store.lanes }
         ensures script { self.new.script ≡ self.old.script }
         ensures live { self.new.live ≡ self.old.live }
     {
+        match self.carry_out(&command) {
+            Ok((decision, joined)) => Ok(decided_entry(self.alloc, command, decision, joined)),
+            Err(stop) => Err(stop),
+        }
+    }
+
+    /// Settles all, decides a command and does it: what was decided, and the effects of both decisions where the settling had any.
+    fn carry_out(&mut self, command: &Command) -> Result<(Decision, List<Effect>), NotedStop>
+        requires at { (w : Whole) × (least : List Row) × (history : HistoryState) ×
+            IsNotedAt M.seen M.may_leave self.old history w least × (length history.entries < 262144) }
+        requires next { (w : Whole) → StandsFor self.old.store w →
+            IsNext self.old.store.control.grain w (Some (Asked.Command command.now)) (agenda_of self.old.store.control.grain self.old.script) }
+        requires decided { IsDecided command.now }
+        ensures leads { IfOk result (λ done. (entry : EntryValue) → IsEntryOf command.now done.0 done.1 entry →
+            (history : HistoryState) → length history.entries < 262144 → LeadsOn M.seen M.may_leave self.old history entry self.new) }
+        ensures any_moment { (history : HistoryState) (w : Whole) (least : List Row) →
+            length history.entries < 262144 → IsNotedAt M.seen M.may_leave self.old history w least →
+            LeavesOnly M.moment M.left_since (disk_of self.old.meta) (disk_of self.new.meta) (LeavesRecoverable self.old self.new w least) }
+        ensures stopped { (history : HistoryState) (w : Whole) (least : List Row) →
+            length history.entries < 262144 → IsNotedAt M.seen M.may_leave self.old history w least →
+            HasStopped M.may_leave self.old self.new w least }
+        ensures not_log { IsErrOf result NotedStop.LogFull → ⊥ }
+        ensures grain { OnOk result (self.new.store.control.grain ≡ self.old.store.control.grain) }
+        ensures lanes { EachLane IsSameLane self.old.store.lanes self.new.store.lanes }
+        ensures script { self.new.script ≡ self.old.script }
+        ensures live { self.new.live ≡ self.old.live }
+    {
+        // (this does nothing: it is known by it what a command leaves on all disks)
+        commanded_law();
         let settling = self.settle()?;
-        let decision = self.store.plan_command(&command)?;
+        let decision = self.store.plan_command(command)?;
         let joined = join(self.alloc, &settling.effects, &decision.effects)?;
-        self.act(&decision, has_effect(&settling) || has_effect(&decision))?;
-        Ok(decided_entry(self.alloc, command, decision, joined))
+        self.act(&decision, have_effect(&settling, &decision))?;
+        Ok((decision, joined))
     }
 }
 
 /// The entry of a command that was decided, with the effects of the settling before its own.
 fn decided_entry(alloc: Global, command: Command, decision: Decision, joined: List<Effect>) -> Entry
-    ensures { (settled : Items EffectValue) → IsJoined settled decision.effects joined →
-        result ≡ entry_apart 0 0 Place.Every (Request.Command command) decision.reply (settled ++ decision.effects) }
+    ensures entry { IsEntryOf command decision joined result }
+    ensures asked { IsAsked 0 0 (Request.Command command) result }
 {
     let Decision { reply, effects, .. } = decision;
     entry_apart(
