@@ -258,6 +258,6 @@ module _ {C D : Type 0} (seen : D → List ℕ) (may_leave : D → List ℕ → 
       (record {
         on = tt;
         any_moment = λ w least d. failed_leaves history w least d;
-        stopped = λ w least d. inl (refl, alone_stops history w least d);
+        stopped = λ w least d. (refl, alone_stops history w least d);
         full = λ f. absurd (other (same_stop stop f));
       })

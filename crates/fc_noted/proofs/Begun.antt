@@ -2,7 +2,6 @@
 use Rattle.std.proofs.Common.{◌≡◌, ℕ, ◌<◌, ◌≤◌, Bool, true, Option, Some, None, List, length, Ok, Err, refl, sym, ap, subst, ◌∙◌, inl, arith}
 use Rattle.std.specs.Prelude.{IsErrOf}
 use Rattle.fc_agenda.specs.Goes.{stays}
-use Rattle.fc_base.specs.declared.request.Request.{Request}
 use Rattle.fc_base.specs.declared.size.GrainSize.{GrainSize}
 use Rattle.fc_changed.specs.Row.{Row}
 use Rattle.fc_entry.specs.HistoryState.{HistoryState}
@@ -196,7 +195,7 @@ module _ {C D : Type 0} (seen : D → List ℕ) (may_leave : D → List ℕ → 
             (subst (λ c. MayBeRecovered c.grain old.script old.named roomy.lanes w least k.image) (sym control) (found_roomy w least at)));
         stopped = λ w least at.
             let k = (at_roomy w least at).keeps in
-            inl (refl, record { volumes = k.volumes; leaves = λ c may. (k.image, ap recovered (k.rests.durable c may) ∙ k.says, found_roomy w least at) });
+            (refl, record { volumes = k.volumes; leaves = λ c may. (k.image, ap recovered (k.rests.durable c may) ∙ k.says, found_roomy w least at) });
         full = λ e. full (err_is stop e);
       }
     where

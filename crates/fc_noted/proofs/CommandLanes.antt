@@ -1,5 +1,5 @@
 -- Which volumes lanes have that stand while a command is done.
-use Rattle.std.proofs.Common.{◌≡◌, ℕ, ◌+◌, ◌*◌, ◌<◌, ◌≤◌, ◌==◌, Bool, true, false, not, Option, Some, None, List, [], ◌∷◌, length, map, get_or, Contains, refl, sym, ap, subst, ◌∙◌, arith}
+use Rattle.std.proofs.Common.{◌≡◌, ℕ, ◌*◌, ◌<◌, ◌≤◌, ◌==◌, true, false, not, Option, Some, None, List, [], ◌∷◌, length, map, get_or, Contains, refl, sym, ap, subst, ◌∙◌, arith}
 use Rattle.std.specs.List.{filter}
 use Rattle.std.proofs.lemmas.Bool.{eqb-true, eq-eqb}
 use Rattle.fc_base.specs.Pools.{Pool}
@@ -25,7 +25,7 @@ use Rattle.fc_kept.specs.Marks.{LeastLeft, LeastLeft.decided}
 use Rattle.fc_lane.specs.Lane.{IsSameLane, LaneView}
 use Rattle.fc_lanes.specs.AllLanes.{EachLane}
 use Rattle.fc_legal.specs.Lawful.{FitChanges}
-use Rattle.fc_legal.specs.Steps.{after_settling, decided_on}
+use Rattle.fc_legal.specs.Steps.{after_settling, decided_on, one_more}
 use Rattle.fc_legal.specs.Whole.{Whole, lanes, volume_told, volumes_told}
 use Rattle.fc_parts.proofs.Told.{part_is}
 use Rattle.fc_rules.specs.LaneTold.{LaneTold}
@@ -41,7 +41,7 @@ use Rattle.law_commanded.specs.Law.{CommandedLaw, HasCome, IsCommanded, gone_by,
 use Rattle.law_commanded.proofs.Leaving.{Here, from_run, some_lanes}
 use Rattle.law_commanded.proofs.Now.{all_given, has_left}
 use Rattle.law_commanded.proofs.Removing.{IsRemoval, removal_is}
-use Rattle.law_commanded.proofs.Standing.{lane_has}
+use Rattle.law_commanded.proofs.Standing.{IsTold, lane_has}
 use Rattle.law_commanded.proofs.Whole.{some_lane}
 use Rattle.fc_noted.proofs.Acting.{none_gone}
 use Rattle.fc_noted.specs.Stopping.{HoldStill}
@@ -81,6 +81,9 @@ none_went_still w sound = all_given w w.books.tables.volumes (all_in_is (λ (v :
 pub none_went_settled : CommandedLaw → (grain : GrainSize) (w : Whole) → AreSound w.books → NoneWent w (after_settling grain w)
 none_went_settled law grain w sound = ap (filter (was_given w)) (law.settled grain w) ∙ none_went_still w sound
 
+told_by_id : (w : Whole) (y : VolumeGrains) (n : ℕ) → IsTold w y → (y.volume.0 == n) ≡ true → (x : Volume) × Contains w.books.tables.volumes x × (x.id.0 ≡ n)
+told_by_id w y n t e = (t.volume, t.there, t.id_is ∙ eqb-true y.volume.0 n e)
+
 -- by a command after which each volume that a lane had is still there
 module _ (law : CommandedLaw) (grain : GrainSize) (entries : List Entry) (w : Whole) (least : List Row) (command : Command) (loop : Option (List VolId)) (entry : Entry) (old : List LaneView) (p : Point)
     (come : HasCome grain entries w least old p) (few : w.entries < 262144) (c : IsCommanded grain w command loop entry) (now new : List LaneView) (are : HaveLanes grain (after_settling grain w) now)
@@ -100,16 +103,20 @@ module _ (law : CommandedLaw) (grain : GrainSize) (entries : List Entry) (w : Wh
   other : LaneView
   other = some_lane grain entries w least old p come (omega (arith, few))
 
-  still_has : (v : Volume) → Contains w.books.tables.volumes v → (x : Volume) × Contains left.books.tables.volumes x × (x.id.0 ≡ v.id.0)
-  still_has v i =
+  still_there : (v : Volume) → Contains w.books.tables.volumes v → is_there (get_or new 0 other).grains.volumes v.id.0 ≡ true
+  still_there v i =
       let some : 0 < lanes w = some_lanes grain w least p here in
       let first : 0 < length old = subst (λ (n : ℕ). 0 < n) (sym come.lanes_are.count) some in
       let was = (lane_has grain w 0 (get_or old 0 other) some here.on.reached.stands.sound (come.lanes_are.each 0 other first)).has v i in
       let there : is_there (get_or old 0 other).grains.volumes v.id.0 ≡ true =
       any_there (λ (u : VolumeGrains). u.volume.0 == v.id.0) (get_or old 0 other).grains.volumes was.held was.inside (eq-eqb was.held.volume.0 v.id.0 was.id_is) in
-      let z = any_from (λ (u : VolumeGrains). u.volume.0 == v.id.0) (get_or new 0 other).grains.volumes (still 0 v.id.0 other there).0 in
-      let told = (has_left grain w least command p here few left (least_behind grain w least command loop) marks new stand other 0 some).told z.0 z.1 in
-      (told.volume, told.there, told.id_is ∙ eqb-true z.0.volume.0 v.id.0 z.2)
+      (still 0 v.id.0 other there).0
+
+  still_has : (v : Volume) → Contains w.books.tables.volumes v → (x : Volume) × Contains left.books.tables.volumes x × (x.id.0 ≡ v.id.0)
+  still_has v i =
+      let z = any_from (λ (u : VolumeGrains). u.volume.0 == v.id.0) (get_or new 0 other).grains.volumes (still_there v i) in
+      let has = has_left grain w least command p here few left (least_behind grain w least command loop) marks new stand other 0 (some_lanes grain w least p here) in
+      told_by_id (one_more left) z.0 v.id.0 (has.told z.0 z.1) z.2
 
   never_gone : (gone : VolId) → gone_by grain w command loop ≡ Some gone → ⊥
   never_gone gone e =

@@ -1,11 +1,10 @@
 -- A command that is done: its entry leads on, and before it is logged a stop finds it as one that is asked.
-use Rattle.std.proofs.Common.{◌≡◌, ℕ, ◌+◌, ◌*◌, ◌<◌, ◌≤◌, ◌||◌, Bool, true, false, if◌then◌else◌, Option, Some, None, List, [], ◌∷◌, ◌++◌, length, refl, sym, ap, subst, ◌∙◌, arith, inr, inl, is_some}
+use Rattle.std.proofs.Common.{◌≡◌, ℕ, ◌+◌, ◌<◌, ◌||◌, Bool, true, false, if◌then◌else◌, Some, None, List, [], ◌∷◌, ◌++◌, length, refl, sym, ap, subst, ◌∙◌, arith, inr, inl, is_some}
 use Rattle.std.proofs.lemmas.List.{length-append}
 use Rattle.fc_agenda.specs.Goes.{stays}
 use Rattle.fc_base.specs.declared.command.Command.{Command}
 use Rattle.fc_base.specs.declared.decision.Decision.{Decision}
 use Rattle.fc_base.specs.declared.request.Request.TheVariants.{Command as Asked}
-use Rattle.fc_base.specs.declared.request.Request.{Request}
 use Rattle.fc_base.specs.declared.size.GrainSize.{GrainSize}
 use Rattle.fc_books.specs.Deciding.{settle}
 use Rattle.fc_changed.specs.Row.{Row}
@@ -14,10 +13,9 @@ use Rattle.fc_entry.specs.declared.entry.Entry.{Entry}
 use Rattle.fc_format.specs.Halves.{Image, recovered}
 use Rattle.fc_format.specs.Ranges.{HasGoodIds}
 use Rattle.fc_held.proofs.Holding.{all_agree}
-use Rattle.fc_held.specs.Held.{HaveVolumes, HoldAllOf, MatchAll}
+use Rattle.fc_held.specs.Held.{HaveVolumes, MatchAll}
 use Rattle.fc_image.specs.declared.image.MetaImage.{MetaImage}
 use Rattle.fc_kept.specs.Actions.{Action.Fold, actions_of_command, has_effect}
-use Rattle.fc_kept.specs.Disks.{NamedDisk}
 use Rattle.fc_kept.specs.Images.{kept_in}
 use Rattle.fc_kept.specs.Kept.{Kept}
 use Rattle.fc_kept.specs.Marks.{LeastLeft.decided, LeastStep}
@@ -26,15 +24,14 @@ use Rattle.fc_kept.specs.Sound.{IsSoundImage}
 use Rattle.fc_lane.specs.Lane.{IsSameLane, LaneView}
 use Rattle.fc_lanes.specs.AllLanes.{EachLane}
 use Rattle.fc_legal.specs.Agenda.{Asks}
-use Rattle.fc_legal.specs.Steps.{Step, after_settling, decided_on, one_more}
+use Rattle.fc_legal.specs.Steps.{Step, one_more}
 use Rattle.fc_legal.specs.Whole.{Whole}
 use Rattle.fc_marks.specs.Marks.{marked}
 use Rattle.fc_marks.specs.declared.marks.Mark.{Mark}
 use Rattle.fc_meta.specs.States.{IsResting, found}
 use Rattle.fc_meta.specs.declared.meta.Meta.{Meta}
 use Rattle.fc_script.specs.Script.{agenda_of}
-use Rattle.fc_script.specs.declared.script.Script.{Script}
-use Rattle.fc_stands.specs.Store.{StandsFor, StoreView}
+use Rattle.fc_stands.specs.Store.{StoreView}
 use Rattle.fc_store.specs.Stepping.{no_lane}
 use Rattle.law_agreeing.proofs.Recovering.{recovers_agreeing}
 use Rattle.law_crash.proofs.Whole.{crash_law_holds}
@@ -42,7 +39,7 @@ use Rattle.law_crash.specs.Points.{Point}
 use Rattle.law_noted.specs.Records.{removed_by}
 use Rattle.law_noted.specs.Runs.{HasRun}
 use Rattle.law_commanded.proofs.Leaving.{from_run}
-use Rattle.law_commanded.specs.Law.{CommandedLaw, HasCome, IsCommanded, decision_on, least_behind, left_behind}
+use Rattle.law_commanded.specs.Law.{CommandedLaw, HasCome, decision_on, least_behind, left_behind}
 use Rattle.fc_noted.proofs.Commanding.{BecomesAnew, same_disks, stands_for}
 use Rattle.fc_noted.proofs.Planned.{IsPlanned, becoming, entry_of, have_left, same_lanes, stands_left}
 use Rattle.fc_noted.proofs.Standing.{has_come}

@@ -1,6 +1,5 @@
 -- A command is logged: what a step makes of it, by what its entry leads to.
-use Rattle.std.proofs.Common.{◌≡◌, ℕ, ◌+◌, ◌<◌, ◌≤◌, Bool, true, Option, Some, None, List, [], ◌∷◌, ◌++◌, length, Result, Ok, Err, OnOk, OnErr, IfErr, refl, sym, ap, subst, ◌∙◌, inl, inr, arith}
-use Rattle.std.specs.Prelude.{IfOk, IsErrOf}
+use Rattle.std.proofs.Common.{◌≡◌, ℕ, ◌<◌, ◌≤◌, true, Option, None, List, [], ◌∷◌, ◌++◌, length, Result, Ok, Err, OnOk, OnErr, IfErr, refl, sym, ap, subst, ◌∙◌, inr}
 use Rattle.fc_agenda.specs.Goes.{stays}
 use Rattle.fc_base.specs.Tables.{Tables}
 use Rattle.fc_base.specs.declared.command.Command.{Command}
@@ -51,7 +50,7 @@ module _ {C D : Type 0} (seen : D → List ℕ) (may_leave : D → List ℕ → 
         stopped = λ w least at.
             let h = at_rest seen may_leave old before w least idle at in
             let m = resting_found seen may_leave old before w least h (subst (λ (k : ℕ). k ≤ 262144) (sym h.told.1.entries) room) in
-            inl (refl, record { volumes = h.keeps.volumes; leaves = λ c may. (h.keeps.image, ap recovered (h.keeps.rests.durable c may) ∙ h.keeps.says, m) });
+            (refl, record { volumes = h.keeps.volumes; leaves = λ c may. (h.keeps.image, ap recovered (h.keeps.rests.durable c may) ∙ h.keeps.says, m) });
         full = λ e. full;
       }
 
@@ -68,7 +67,7 @@ module _ {C D : Type 0} (seen : D → List ℕ) (may_leave : D → List ℕ → 
       record {
         on = tt;
         any_moment = λ w least at. any_moment before w least room (rest w least at);
-        stopped = λ w least at. inl (refl, stopped before w least room (rest w least at));
+        stopped = λ w least at. (refl, stopped before w least room (rest w least at));
         full = λ e. absurd (other (same_stop stop e));
       }
 
@@ -87,7 +86,7 @@ module _ {C D : Type 0} (seen : D → List ℕ) (may_leave : D → List ℕ → 
         record {
           on = tt;
           any_moment = λ w least at. any_moment before w least room (rest w least at);
-          stopped = λ w least at. inl (refl, stops w least at);
+          stopped = λ w least at. (refl, stops w least at);
           full = λ e. absurd (let f : WantsMemory ≡ LogFull = same_stop WantsMemory e in cc);
         }
 

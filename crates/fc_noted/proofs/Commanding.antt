@@ -18,14 +18,14 @@ use Rattle.fc_imaging.specs.Imaging.{is_lost_at, kept_of}
 use Rattle.fc_imaging.specs.Without.{without}
 use Rattle.fc_kept.specs.Images.{kept_in, meta_of}
 use Rattle.fc_kept.specs.Kept.{Kept, is_lost_in}
-use Rattle.fc_kept.specs.Marks.{LeastLeft, LeastLeft.decided, LeastLeft.settled_alone, least_by}
+use Rattle.fc_kept.specs.Marks.{LeastLeft, least_by}
 use Rattle.fc_kept.specs.Sound.{IsSoundImage, IsSoundKept}
 use Rattle.fc_kept.proofs.Said.{said}
 use Rattle.fc_kept.proofs.Tidy.{image_sound}
 use Rattle.fc_lane.specs.Lane.{IsSameLane, LaneView}
 use Rattle.fc_lanes.specs.AllLanes.{EachLane}
 use Rattle.fc_legal.specs.Lawful.{IsLawful}
-use Rattle.fc_legal.specs.Steps.{CommandIsRight, CommandLeft, CommandLeft.decided, CommandStep, after_settling, decided_on, left_by, one_more}
+use Rattle.fc_legal.specs.Steps.{CommandIsRight, CommandLeft, CommandStep, after_settling, decided_on, left_by, one_more}
 use Rattle.fc_legal.specs.Whole.{Whole}
 use Rattle.fc_stands.specs.Apart.{entry_apart}
 use Rattle.fc_stands.specs.Phase.{IsDecided, StandsAt}

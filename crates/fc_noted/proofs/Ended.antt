@@ -1,5 +1,5 @@
 -- The entry of steps that are over is logged: the history leads on with it, and the script goes on behind it.
-use Rattle.std.proofs.Common.{◌≡◌, ℕ, ◌+◌, ◌<◌, ◌^◌, true, Option, Some, None, List, [], ◌∷◌, ◌++◌, length, slice_set, refl, sym, ap, subst, ◌∙◌, inl, inr, arith, Vec, Global}
+use Rattle.std.proofs.Common.{◌≡◌, ℕ, ◌+◌, ◌<◌, ◌^◌, true, Option, Some, None, List, [], ◌∷◌, ◌++◌, length, slice_set, refl, sym, ap, subst, ◌∙◌, inr, arith, Vec, Global}
 use Rattle.std.specs.Prelude.{Err, IfErr, Ok, OnErr, OnOk, Result}
 use Rattle.std.proofs.lemmas.List.{length-append}
 use Rattle.fc_agenda.specs.Goes.{stays}
@@ -259,7 +259,7 @@ module _ {C D : Type 0} (seen : D → List ℕ) (may_leave : D → List ℕ → 
         record {
           on = tt;
           any_moment = λ w least d. leaves history w least d marks script moment left_since only_now;
-          stopped = λ w least d. inl (refl, stops history w least d marks script);
+          stopped = λ w least d. (refl, stops history w least d marks script);
           full = λ f. absurd (let e : WantsMemory ≡ LogFull = same_stop WantsMemory f in cc);
         }
 

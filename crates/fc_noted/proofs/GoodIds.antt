@@ -1,5 +1,5 @@
 -- The ids in an image of what is sound are ids.
-use Rattle.std.proofs.Common.{◌≡◌, ℕ, suc, ◌<◌, ◌==◌, Bool, true, false, cond, IsSome, Option, Some, None, List, [], ◌∷◌, length, map, get_or, All, Contains, inl, inr, refl, sym, subst, arith}
+use Rattle.std.proofs.Common.{◌≡◌, ℕ, suc, ◌<◌, ◌==◌, Bool, true, false, cond, IsSome, Option, Some, None, List, [], ◌∷◌, length, get_or, All, Contains, inl, inr, refl, sym, subst, arith}
 use Rattle.std.specs.List.{filter}
 use Rattle.std.specs.Option.{ForSome}
 use Rattle.std.proofs.lemmas.Bool.{eqb-true}

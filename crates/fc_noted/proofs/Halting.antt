@@ -1,25 +1,22 @@
--- Where a step stopped: its line's first entries are logged, and with them what is told may be recovered.
-use Rattle.std.proofs.Common.{◌≡◌, ℕ, ◌≤◌, Bool, Option, Some, None, List, [], ◌∷◌, length, false, Err, refl, sym, ap, subst, ◌∙◌, inl, inr, ◌⊎◌, arith}
+-- Where a step stopped: the first entries of its line are logged, and with them what is told may be recovered.
+use Rattle.std.proofs.Common.{◌≡◌, ℕ, ◌≤◌, Bool, Option, Some, None, List, length, false, Err, refl, sym, ap, subst, ◌∙◌, arith}
 use Rattle.std.specs.Prelude.{IsErrOf}
-use Rattle.std.proofs.lemmas.List.{length-append}
-use Rattle.fc_agenda.proofs.Going.{Goes-append}
-use Rattle.fc_agenda.specs.Goes.{Goes, GoesAsking, GoesSome, answers, stays}
+use Rattle.fc_agenda.specs.Goes.{GoesAsking, GoesSome}
 use Rattle.fc_base.specs.declared.size.GrainSize.{GrainSize}
 use Rattle.fc_changed.specs.Row.{Row}
 use Rattle.fc_entry.specs.HistoryState.{HistoryState}
-use Rattle.fc_entry.specs.declared.entry.Entry.{Entry}
 use Rattle.fc_format.specs.Halves.{recovered}
 use Rattle.fc_kept.specs.Images.{kept_in}
 use Rattle.fc_kept.specs.Recoverable.{Recoverable}
 use Rattle.fc_legal.specs.Added.{Adds, IsOf}
-use Rattle.fc_legal.specs.Agenda.{Agenda, Reading, behind_entry, session_rules}
+use Rattle.fc_legal.specs.Agenda.{Agenda, Reading, session_rules}
 use Rattle.fc_legal.specs.Whole.{Whole}
 use Rattle.fc_marks.specs.declared.error.NotedStop.TheVariants.{LogFull, NoMemory, MetaFailed, MetaFull}
 use Rattle.fc_marks.specs.declared.error.NotedStop.{NotedStop}
-use Rattle.fc_noted.proofs.Lines.{AllHalt, Brings, Comes, brings_one, brings_still}
+use Rattle.fc_noted.proofs.Lines.{AllHalt, Brings, Comes, brings_still}
 use Rattle.fc_noted.proofs.Moments.{doing_found, resting_found}
 use Rattle.fc_noted.proofs.Resting.{rests}
-use Rattle.fc_noted.specs.Making.{HasStoppedBehind, StepMade, Stopped}
+use Rattle.fc_noted.specs.Making.{StepMade}
 use Rattle.fc_noted.specs.Noted.{IsAt, IsAtBy, IsNotedAt}
 use Rattle.fc_noted.specs.Stopping.{AsksSome, Halts, HasStopped, Leaves}
 use Rattle.fc_noted.specs.declared.noted.Noted.{Noted}
@@ -40,8 +37,6 @@ module _ {C D : Type 0} (seen : D → List ℕ) (may_leave : D → List ℕ → 
 
     abbrev To : Whole → Whole → Type 0
     To w m = Brings old.store.control.grain (agenda_of old.store.control.grain old.script) w (agenda_of old.store.control.grain mid.script) m before between
-
-    -- ---- nothing more was logged
 
     leaves_there : (m : Whole) (least : List Row) → HasStopped may_leave mid new m least → Leaves old.store.control.grain may_leave new m
     leaves_there m least s =
@@ -77,92 +72,35 @@ module _ {C D : Type 0} (seen : D → List ℕ) (may_leave : D → List ℕ → 
           are = record { end = agenda_of grain a.0; goes = on.are read; wanted = (0, a.1); asks = a.3 };
         }
 
-    -- ---- one more entry was
-
-    abbrev Behind : Whole → Type 0
-    Behind m = HasStoppedBehind seen may_leave moment left_since mid new between after m
-
-    leaves_behind : (m : Whole) (h : HasStoppedBehind seen may_leave moment left_since mid new between after m) → Leaves old.store.control.grain may_leave new h.next
-    leaves_behind m h =
-        record {
-          volumes = h.volumes;
-          found = λ c may.
-              let l = h.found c may in (
-                l.0,
-                l.1,
-                l.2,
-                λ back hold. (h.least, None, None, subst (λ (g : GrainSize). Recoverable g back (kept_in l.0) h.next h.least None None) comes.grain (l.3 back hold)),
-              );
-        }
-
-    some_behind : (w m : Whole) → To w m → (h : HasStoppedBehind seen may_leave moment left_since mid new between after m) → (read : Reading) →
-        Adds before after (λ more. GoesSome (session_rules old.store.control.grain read) (agenda_of old.store.control.grain old.script) w more h.next)
-    some_behind w m to h read =
-        let One : GrainSize → Type 0 = λ g. (by : Reading) →
-        Goes (session_rules g by) (agenda_of g mid.script) m (h.entry ∷ []) (behind_entry g (agenda_of g h.asking) h.next h.entry) h.next in
-        let one : One mid.store.control.grain = λ by.
-        Goes-append (session_rules mid.store.control.grain by) (agenda_of mid.store.control.grain mid.script) (agenda_of mid.store.control.grain h.asking)
-        (behind_entry mid.store.control.grain (agenda_of mid.store.control.grain h.asking) h.next h.entry) m m h.next [] (h.entry ∷ []) (h.reached by) (answers h.answer.asked h.answer.right stays) in
-        let on = brings_one grain begun (agenda_of grain mid.script) (behind_entry grain (agenda_of grain h.asking) h.next h.entry) w m before between to after h.entry h.next h.pushed
-        (subst One comes.grain one) in
-        record { more = on.more; entries = on.entries; are = record { end = behind_entry grain (agenda_of grain h.asking) h.next h.entry; goes = on.are read } }
-
-    -- ---- either
-
-    abbrev Halted : Reading → Whole → Type 0
-    Halted read w =
-        (next : Whole) × IsOf next after × Leaves old.store.control.grain may_leave new next
-        × Adds before after (λ more. GoesSome (session_rules old.store.control.grain read) (agenda_of old.store.control.grain old.script) w more next)
-
-    halted_there : (read : Reading) (w m : Whole) (least : List Row) → To w m → IsOf m between → after ≡ between → HasStopped may_leave mid new m least → Halted read w
-    halted_there read w m least to is same s = (m, subst (λ (h : HistoryState). IsOf m h) (sym same) is, leaves_there m least s, some_there w m to same read)
-
-    halted_behind : (read : Reading) (w m : Whole) → To w m → Behind m → Halted read w
-    halted_behind read w m to h = (h.next, h.told, leaves_behind m h, some_behind w m to h read)
-
-    abbrev How : NotedStop → Whole → List Row → Type 0
-    How stop m least = Stopped seen may_leave moment left_since (Err stop) mid new between after m least
-
-    halted_some : (stop : NotedStop) (read : Reading) (w m : Whole) (least : List Row) → To w m → IsOf m between → How stop m least → Halted read w
-    halted_some stop read w m least to is (inl s) = halted_there read w m least to is s.0 s.1
-    halted_some stop read w m least to is (inr s) = halted_behind read w m to s.1
-
     full_there : after ≡ between → length between.entries ≤ 262144 → 262144 ≤ length between.entries → length after.entries ≡ 262144
     full_there same room full = ap (λ (h : HistoryState). length h.entries) same ∙ omega (arith, room, full)
 
-    halted_full : (read : Reading) (w m : Whole) (least : List Row) → To w m → IsOf m between → 262144 ≤ length between.entries → AsksSome mid.store.control.grain mid.script m → How LogFull m least →
-        Halts old.store.control.grain may_leave read LogFull (agenda_of old.store.control.grain old.script) new w before after
-    halted_full read w m least to is full asks (inl s) = (
-      full_there s.0 comes.can.room full,
-      (m, subst (λ (h : HistoryState). IsOf m h) (sym s.0) is, leaves_there m least s.1, asking_there w m to s.0 asks read),
-    )
-    halted_full read w m least to is full asks (inr s) = absurd (other s.0)
-      where
-        other : IsErrOf {T = Bool} (Err LogFull) NoMemory → ⊥
-        other e = cc
+    still_of : (m : Whole) → after ≡ between → IsOf m between → IsOf m after
+    still_of m same is = subst (λ (h : HistoryState). IsOf m h) (sym same) is
+
+    -- ---- by why it stopped
 
     halted_by : (stop : NotedStop) (read : Reading) (w m : Whole) (least : List Row) → To w m → IsOf m between → (IsErrOf {T = Bool} (Err stop) LogFull → 262144 ≤ length between.entries) →
-        (IsErrOf {T = Bool} (Err stop) LogFull → AsksSome mid.store.control.grain mid.script m) → How stop m least →
+        (IsErrOf {T = Bool} (Err stop) LogFull → AsksSome mid.store.control.grain mid.script m) → after ≡ between → HasStopped may_leave mid new m least →
         Halts old.store.control.grain may_leave read stop (agenda_of old.store.control.grain old.script) new w before after
-    halted_by LogFull read w m least to is full asks how = halted_full read w m least to is (full refl) (asks refl) how
-    halted_by NoMemory read w m least to is full asks how = halted_some NoMemory read w m least to is how
-    halted_by MetaFailed read w m least to is full asks how = halted_some MetaFailed read w m least to is how
-    halted_by MetaFull read w m least to is full asks how = halted_some MetaFull read w m least to is how
+    halted_by LogFull read w m least to is full asks same s =
+        (full_there same comes.can.room (full refl), (m, still_of m same is, leaves_there m least s, asking_there w m to same (asks refl) read))
+    halted_by NoMemory read w m least to is full asks same s = (m, still_of m same is, leaves_there m least s, some_there w m to same read)
+    halted_by MetaFailed read w m least to is full asks same s = (m, still_of m same is, leaves_there m least s, some_there w m to same read)
+    halted_by MetaFull read w m least to is full asks same s = (m, still_of m same is, leaves_there m least s, some_there w m to same read)
 
     pub halted : (stop : NotedStop) → StepMade seen may_leave moment left_since (Err stop) mid new between after →
         (IsErrOf {T = Bool} (Err stop) LogFull → (m : Whole) (least : List Row) → IsAt seen may_leave mid between m least → AsksSome mid.store.control.grain mid.script m) → AllHalt seen may_leave old before stop new after
     halted stop made asks read w least there =
         let m = comes.came w least there in
-        halted_by stop read w m.0 m.1 m.3 (of_by mid.under_way mid between m.0 m.1 m.2) made.full (λ full. asks full m.0 m.1 m.2) (made.stopped m.0 m.1 m.2)
+        let s = made.stopped m.0 m.1 m.2 in
+        halted_by stop read w m.0 m.1 m.3 (of_by mid.under_way mid between m.0 m.1 m.2) made.full (λ full. asks full m.0 m.1 m.2) s.0 s.1
 
     -- it is within the limit
     pub halted_limit : (stop : NotedStop) → StepMade seen may_leave moment left_since (Err stop) mid new between after → length after.entries ≤ 262144
     halted_limit stop made =
         let can = comes.can in
-        elim (made.stopped can.w can.least can.at) [
-          | inl s ↦ subst (λ (h : HistoryState). length h.entries ≤ 262144) (sym s.0) can.room
-          | inr s ↦ subst (λ (h : HistoryState). length h.entries ≤ 262144) (sym s.1.pushed) (omega (arith, s.1.room, length-append between.entries (s.1.entry ∷ [])))
-        ]
+        subst (λ (h : HistoryState). length h.entries ≤ 262144) (sym (made.stopped can.w can.least can.at).0) can.room
 
   -- ---- the steps are too many
 
@@ -183,8 +121,8 @@ module _ {C D : Type 0} (seen : D → List ℕ) (may_leave : D → List ℕ → 
   pub halted_on : (old mid : Noted C D) (before between : HistoryState) → Comes seen may_leave old before mid between → AllHalt seen may_leave old before NoMemory (record mid { live = false }) between
   halted_on old mid before between comes read w least there =
       let m = comes.came w least there in
-      halted_some old mid before between comes (record mid { live = false }) between NoMemory read w m.0 m.1 m.3 (of_by mid.under_way mid between m.0 m.1 m.2)
-      (inl (refl, stops_by mid.under_way mid between m.0 m.1 m.2 comes.can.room))
+      halted_by old mid before between comes (record mid { live = false }) between NoMemory read w m.0 m.1 m.3 (of_by mid.under_way mid between m.0 m.1 m.2) (λ full. absurd cc) (λ full. absurd cc) refl
+      (stops_by mid.under_way mid between m.0 m.1 m.2 comes.can.room)
 
 -- ---- between two entries
 

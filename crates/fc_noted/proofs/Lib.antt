@@ -26,7 +26,7 @@ mod Opening
 mod Putting
 mod Reading
 mod Refusing
-mod Resting
+pub mod Resting
 mod Standing
 mod Stepping
 mod Still

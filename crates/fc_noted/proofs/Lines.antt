@@ -17,7 +17,7 @@ use Rattle.fc_legal.specs.Whole.{Whole}
 use Rattle.fc_marks.specs.declared.error.NotedStop.TheVariants.{LogFull, NoMemory, MetaFailed, MetaFull}
 use Rattle.fc_marks.specs.declared.error.NotedStop.{NotedStop}
 use Rattle.fc_noted.specs.Stopping.{Halts, LineHalts}
-use Rattle.fc_noted.specs.Noted.{CanStep, GoesOnTo, IsAt, IsAtBy, IsDoing, IsNotedAt, Logs, Stays}
+use Rattle.fc_noted.specs.Noted.{CanStep, GoesOnTo, IsAt, IsAtBy, IsNotedAt, Logs, Stays}
 use Rattle.fc_noted.specs.declared.noted.Noted.{Noted}
 use Rattle.fc_noted.specs.declared.noted.UnderWay.{UnderWay}
 use Rattle.fc_script.specs.Passage.{GoesOn}

@@ -160,7 +160,7 @@ module _ {C D : Type 0} (seen : D → List ℕ) (may_leave : D → List ℕ → 
       (record {
         on = tt;
         any_moment = λ w least d. failed_leaves history w least d;
-        stopped = λ w least d. inl (refl, mark_stops history w least d);
+        stopped = λ w least d. (refl, mark_stops history w least d);
         full = λ f. absurd (other (same_stop stop f));
       })
 
@@ -179,6 +179,6 @@ module _ {C D : Type 0} (seen : D → List ℕ) (may_leave : D → List ℕ → 
             still_leaves seen may_leave moment left_since only_now old new w least d.keeps.image refl d.keeps.says d.keeps.rests.durable
             (hold_either n.store n.store n.script n.named w least d.keeps.image refl (doing_found seen may_leave old way history w least d) (doing_found seen may_leave old way history w least d));
         stopped = λ w least d.
-            inl (refl, record { volumes = d.keeps.volumes; leaves = λ c left. (d.keeps.image, ap recovered (d.keeps.rests.durable c left) ∙ d.keeps.says, doing_found seen may_leave old way history w least d) });
+            (refl, record { volumes = d.keeps.volumes; leaves = λ c left. (d.keeps.image, ap recovered (d.keeps.rests.durable c left) ∙ d.keeps.says, doing_found seen may_leave old way history w least d) });
         full = λ f. absurd (other (same_stop stop f));
       })

@@ -1,30 +1,27 @@
 -- What a line asks next begins behind what passes without an entry.
-use Rattle.std.proofs.Common.{◌≡◌, ℕ, ◌≤◌, Bool, true, false, Option, Some, None, List, [], length, Result, Ok, Err, IfOk, OnErr, refl, sym, ap, subst, ◌∙◌, inl, inr}
-use Rattle.std.specs.Prelude.{IsErrOf}
+use Rattle.std.proofs.Common.{◌≡◌, ℕ, ◌≤◌, Bool, true, false, Option, None, List, [], length, Result, Ok, Err, refl, sym, ap, subst, ◌∙◌, inl, inr}
 use Rattle.fc_agenda.proofs.Going.{Goes-append}
-use Rattle.fc_agenda.specs.Goes.{stays}
 use Rattle.fc_base.specs.declared.size.GrainSize.{GrainSize}
 use Rattle.fc_changed.specs.Row.{Row}
 use Rattle.fc_entry.specs.HistoryState.{HistoryState}
-use Rattle.fc_format.specs.Halves.{Image, recovered}
+use Rattle.fc_format.specs.Halves.{recovered}
 use Rattle.fc_image.specs.declared.image.MetaImage.{MetaImage}
 use Rattle.fc_lane.specs.Lane.{LaneView}
 use Rattle.fc_legal.specs.Agenda.{Agenda, session_rules}
 use Rattle.fc_legal.specs.Whole.{Whole}
-use Rattle.fc_marks.specs.declared.error.NotedStop.TheVariants.{LogFull, NoMemory as WantsMemory}
+use Rattle.fc_marks.specs.declared.error.NotedStop.TheVariants.{NoMemory as WantsMemory}
 use Rattle.fc_marks.specs.declared.error.NotedStop.{NotedStop}
 use Rattle.fc_meta.proofs.Moments.{weaker}
 use Rattle.fc_noted.proofs.Begun.{at_rest}
 use Rattle.fc_noted.proofs.Moments.{hold_either, resting_found, still_leaves}
-use Rattle.fc_noted.specs.Making.{HasStoppedBehind, StepMade, Stopped}
+use Rattle.fc_noted.specs.Making.{StepMade}
 use Rattle.fc_noted.specs.Noted.{GoesOnTo, IsAt, IsAtBy, IsNotedAt, Logs, Stays}
 use Rattle.fc_noted.specs.Stopping.{HasStopped, LeavesRecoverable, MayBeRecovered}
 use Rattle.fc_noted.specs.declared.noted.Noted.{Noted}
 use Rattle.fc_noted.specs.declared.noted.UnderWay.{UnderWay}
-use Rattle.fc_script.specs.Asking.{Fits, IsNext, IsNextOf}
+use Rattle.fc_script.specs.Asking.{Fits, IsNext}
 use Rattle.fc_script.specs.Passage.{GoesOn}
 use Rattle.fc_script.specs.Script.{agenda_of}
-use Rattle.fc_script.specs.declared.asking.Asked.{Asked}
 use Rattle.fc_script.specs.declared.script.Script.{Script}
 use Rattle.fc_stands.specs.Store.{StandsFor}
 
@@ -129,27 +126,8 @@ module _ {C D : Type 0} (seen : D → List ℕ) (may_leave : D → List ℕ → 
       moment_behind : (c : List ℕ) → LeavesRecoverable on_script new w least c → LeavesRecoverable old new w least c
       moment_behind c l = (l.0, l.1, λ lanes may. found_behind lanes old.named l.0 (l.2 lanes may))
 
-      stopped_behind : (result : Result Bool NotedStop) → Stopped seen may_leave moment left_since result on_script new before after w least → Stopped seen may_leave moment left_since result old new before after w least
-      stopped_behind result (inl s) =
-          inl (s.0, record { volumes = s.1.volumes; leaves = λ c may. let l = s.1.leaves c may in (l.0, l.1, found_behind new.store.lanes new.named l.0 l.2) })
-      stopped_behind result (inr s) =
-          let h = s.1 in
-          inr (
-            s.0,
-            record {
-              entry = h.entry;
-              next = h.next;
-              least = h.least;
-              room = h.room;
-              pushed = h.pushed;
-              asking = h.asking;
-              reached = goes_then g w (agenda_of g old.script) (agenda_of g script) (agenda_of g h.asking) (goes_there w least at) h.reached;
-              answer = h.answer;
-              told = h.told;
-              volumes = h.volumes;
-              found = h.found;
-            },
-          )
+      stopped_behind : HasStopped may_leave on_script new w least → HasStopped may_leave old new w least
+      stopped_behind s = record { volumes = s.volumes; leaves = λ c may. let l = s.leaves c may in (l.0, l.1, found_behind new.store.lanes new.named l.0 l.2) }
 
     made_by : (result : Result Bool NotedStop) (new : Noted C D) (after : HistoryState) → StepMade seen may_leave moment left_since result on_script new before after → StepMade seen may_leave moment left_since result old new before after
     made_by (Ok more) new after s =
@@ -165,7 +143,9 @@ module _ {C D : Type 0} (seen : D → List ℕ) (may_leave : D → List ℕ → 
           on = tt;
           any_moment = λ w least at.
               weaker moment left_since old.meta.disk new.meta.disk (LeavesRecoverable on_script new w least) (LeavesRecoverable old new w least) (moment_behind new after w least at) (s.any_moment w least (script_is_at w least at));
-          stopped = λ w least at. stopped_behind new after w least at (Err stop) (s.stopped w least (script_is_at w least at));
+          stopped = λ w least at.
+              let x = s.stopped w least (script_is_at w least at) in
+              (x.0, stopped_behind new after w least at x.1);
           full = s.full;
         }
 
@@ -207,6 +187,6 @@ module _ {C D : Type 0} (seen : D → List ℕ) (may_leave : D → List ℕ → 
         stopped = λ w least at.
             let h = at_rest seen may_leave old before w least idle at in
             let few : w.entries ≤ 262144 = subst (λ (k : ℕ). k ≤ 262144) (sym h.told.1.entries) room in
-            inl (refl, record { volumes = h.keeps.volumes; leaves = λ c may. (h.keeps.image, ap recovered (h.keeps.rests.durable c may) ∙ h.keeps.says, resting_found seen may_leave old before w least h few) });
+            (refl, record { volumes = h.keeps.volumes; leaves = λ c may. (h.keeps.image, ap recovered (h.keeps.rests.durable c may) ∙ h.keeps.says, resting_found seen may_leave old before w least h few) });
         full = λ f. absurd cc;
       }

@@ -1,5 +1,5 @@
 -- What a step makes, by what is made with the entry that was taken out of the noted store; and behind an error no step may be made.
-use Rattle.std.proofs.Common.{◌≡◌, ℕ, Bool, true, false, Option, List, sym, ap, subst, ◌∙◌, inl, inr}
+use Rattle.std.proofs.Common.{◌≡◌, ℕ, Bool, true, false, Option, List, sym, ap, subst, ◌∙◌}
 use Rattle.std.specs.Prelude.{Err, Ok, Result, is_err}
 use Rattle.fc_entry.specs.HistoryState.{HistoryState}
 use Rattle.fc_marks.specs.declared.error.NotedStop.{NotedStop}
@@ -27,25 +27,9 @@ module _ {C D : Type 0} (seen : D → List ℕ) (may_leave : D → List ℕ → 
       record {
         on = tt;
         any_moment = made.any_moment;
-        stopped = λ w least at. elim (made.stopped w least at) [
-          | inl x ↦ inl (x.0, record { volumes = x.1.volumes; leaves = x.1.leaves })
-          | inr x ↦ inr (
-            x.0,
-            record {
-              entry = x.1.entry;
-              next = x.1.next;
-              least = x.1.least;
-              room = x.1.room;
-              pushed = x.1.pushed;
-              asking = x.1.asking;
-              reached = x.1.reached;
-              answer = x.1.answer;
-              told = x.1.told;
-              volumes = x.1.volumes;
-              found = x.1.found;
-            },
-          )
-        ];
+        stopped = λ w least at.
+            let x = made.stopped w least at in
+            (x.0, record { volumes = x.1.volumes; leaves = x.1.leaves });
         full = made.full;
       }
 

@@ -1,5 +1,5 @@
 -- An entry by which the disks stand as they stood is logged: the history leads on with it.
-use Rattle.std.proofs.Common.{◌≡◌, ℕ, ◌<◌, ◌≤◌, true, Option, None, List, [], ◌∷◌, ◌++◌, length, Result, Ok, Err, OnOk, OnErr, IfErr, Contains, refl, sym, ap, subst, ◌∙◌, inl, inr, arith}
+use Rattle.std.proofs.Common.{◌≡◌, ℕ, ◌<◌, ◌≤◌, true, Option, None, List, [], ◌∷◌, ◌++◌, length, Result, Ok, Err, OnOk, OnErr, IfErr, Contains, refl, sym, ap, subst, ◌∙◌, inr, arith}
 use Rattle.std.specs.List.{filter, fold}
 use Rattle.std.proofs.lemmas.List.{length-append}
 use Rattle.fc_agenda.specs.Goes.{stays}
@@ -243,8 +243,7 @@ module _ {C D : Type 0} (seen : D → List ℕ) (may_leave : D → List ℕ → 
           on = tt;
           any_moment = moments script;
           stopped = λ w least at.
-              let x = h script w least at in
-              inl (
+              let x = h script w least at in (
                 refl,
                 record { volumes = (hold script w least at).volumes; leaves = λ c may. (x.keeps.image, ap recovered (x.keeps.rests.durable c may) ∙ x.keeps.says, found_held script w least at) },
               );

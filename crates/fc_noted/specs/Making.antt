@@ -1,5 +1,5 @@
 -- What a step makes, and what it leaves.
-use Rattle.std.specs.Prelude.{◌+◌, ◌≡◌, ◌⊎◌, ℕ, ◌≤◌, ◌/◌, Bool, true, false, List, [], ◌∷◌, ◌++◌, length, Some, None, Result, Ok, Err, IfOk, OnErr, IsErrOf, Contains, map, ◌<◌}
+use Rattle.std.specs.Prelude.{◌+◌, ◌≡◌, ◌⊎◌, ℕ, ◌≤◌, Bool, true, false, List, [], ◌∷◌, ◌++◌, length, Some, None, Result, Ok, Err, IfOk, OnErr, IsErrOf}
 use Rattle.fc_apart.specs.Effects.{IsJoined}
 use Rattle.fc_base.specs.declared.command.Command.{Command}
 use Rattle.fc_base.specs.declared.decision.Decision.{Decision}
@@ -8,29 +8,23 @@ use Rattle.fc_base.specs.declared.request.Effect.{Effect}
 use Rattle.fc_base.specs.declared.request.Place.TheVariants.{Every}
 use Rattle.fc_base.specs.declared.request.Request.TheVariants.{Command as Asked}
 use Rattle.fc_base.specs.declared.size.GrainSize.{GrainSize}
-use Rattle.fc_base.specs.declared.volume.Volume.{Volume}
 use Rattle.fc_changed.specs.Row.{Row}
 use Rattle.fc_entry.specs.HistoryState.{HistoryState}
 use Rattle.fc_entry.specs.declared.entry.Entry.{Entry}
 use Rattle.fc_format.specs.Halves.{Image, recovered}
 use Rattle.fc_image.specs.declared.image.MetaImage.{MetaImage}
-use Rattle.fc_kept.specs.Disks.{NamedDisk}
 use Rattle.fc_imaging.specs.Imaging.{kept_of, lost_grains}
 use Rattle.fc_imaging.specs.Without.{without}
-use Rattle.fc_kept.specs.Images.{kept_in, meta_of}
-use Rattle.fc_kept.specs.Recoverable.{Recoverable}
-use Rattle.fc_kept.specs.Sound.{IsSoundImage}
+use Rattle.fc_kept.specs.Images.{meta_of}
 use Rattle.fc_lane.specs.Lane.{IsSameLane, LaneView}
 use Rattle.fc_lanes.specs.AllLanes.{EachLane}
-use Rattle.fc_legal.specs.Added.{IsOf, IsTold}
+use Rattle.fc_legal.specs.Added.{IsTold}
 use Rattle.fc_legal.specs.Lawful.{IsLawful}
 use Rattle.fc_legal.specs.Steps.{Step, left_by}
 use Rattle.fc_legal.specs.Whole.{Whole}
 use Rattle.fc_meta.specs.States.{IsResting, found}
 use Rattle.fc_metadisk.specs.Disk.{LeavesOnly}
 use Rattle.fc_script.specs.Asking.{IsAnswer, IsLeft}
-use Rattle.fc_script.specs.Passage.{GoesOn}
-use Rattle.fc_script.specs.Script.{agenda_of}
 use Rattle.fc_script.specs.declared.script.Script.{Script}
 use Rattle.fc_stands.specs.Apart.{entry_apart}
 use Rattle.fc_stands.specs.Phase.{StandsAt}
@@ -42,13 +36,12 @@ use Rattle.fc_steps.specs.UnderWay.{next_of}
 use Rattle.fc_steps.specs.declared.stepping.Next.{Next}
 use Rattle.fc_steps.specs.declared.stepping.Next.TheVariants.{Own}
 use Rattle.fc_store.specs.Stepping.{lane_in}
-use Rattle.fc_held.specs.Held.{HaveVolumes, HoldAllOf}
 use Rattle.law_noted.specs.DataSteps.{Copies}
 use Rattle.fc_marks.specs.Marks.{is_open_any}
 use Rattle.fc_noted.specs.Noted.{GoesOnTo, IsAt, IsNotedAt, Keeps}
 use Rattle.fc_noted.specs.Stopping.{HasStopped, LeavesRecoverable}
 use Rattle.fc_marks.specs.declared.error.NotedStop.{NotedStop}
-use Rattle.fc_marks.specs.declared.error.NotedStop.TheVariants.{LogFull, NoMemory as WantsMemory}
+use Rattle.fc_marks.specs.declared.error.NotedStop.TheVariants.{LogFull}
 use Rattle.fc_noted.specs.declared.noted.Noted.{Noted}
 use Rattle.fc_noted.specs.declared.noted.UnderWay.{UnderWay}
 
@@ -84,39 +77,16 @@ done = Ok tt
 abbrev pub GoesBehind : GrainSize → (Whole → Type 0) → Script → Entry → Script → Type 0
 GoesBehind grain Stands script entry new = (w next : Whole) → IsAnswer grain script w entry next → Stands next → IsLeft grain script w entry next new
 
--- ---- an error behind an entry
+-- ---- a step
 
 module _ {C D : Type 0} (seen : D → List ℕ) (may_leave : D → List ℕ → Type 0) (moment : D → ℕ) (left_since : D → ℕ → List ℕ → Type 0) where
-  -- An entry that answers what the script asks next was logged, and memory was wanted behind it: what stands is what the history leads
-  -- to with it.
-  pub record HasStoppedBehind (old new : Noted C D) (before after : HistoryState) (w : Whole) : Type 0 where
-    pub entry : Entry
-    pub next : Whole
-    pub least : List Row
-    pub room : length before.entries < 262144
-    pub pushed : after ≡ record before { entries = before.entries ++ entry ∷ [] }
-    pub asking : Script
-    pub reached : GoesOn old.store.control.grain w (agenda_of old.store.control.grain old.script) (agenda_of old.store.control.grain asking)
-    pub answer : IsAnswer old.store.control.grain asking w entry next
-    pub told : IsOf next after
-    pub volumes : HaveVolumes new.disks new.store
-    pub found : (c : List ℕ) → may_leave new.meta.disk c →
-        (image : MetaImage) × (recovered c ≡ Image image) × IsSoundImage image
-        × ((back : List (List NamedDisk)) → HoldAllOf new.named new.store.lanes back → Recoverable old.store.control.grain back (kept_in image) next least None None)
-
-  abbrev pub Stopped : Result Bool NotedStop → Noted C D → Noted C D → HistoryState → HistoryState → Whole → List Row → Type 0
-  Stopped result old new before after w least =
-      ((after ≡ before) × HasStopped may_leave old new w least)
-      ⊎ (IsErrOf result WantsMemory × HasStoppedBehind old new before after w)
-
-  -- ---- a step
-
-  -- On Ok it goes on. At any moment, and behind an error, what a stop leaves may be recovered.
+  -- On Ok it goes on. At any moment, and behind an error, what a stop leaves may be recovered; an error leaves the history as it was.
   pub record StepMade (result : Result Bool NotedStop) (old new : Noted C D) (before after : HistoryState) : Type 0 where
     pub on : IfOk result (λ more. (w : Whole) (least : List Row) → IsAt seen may_leave old before w least → GoesOnTo seen may_leave more w least old before new after)
     pub any_moment : (w : Whole) (least : List Row) → IsAt seen may_leave old before w least →
         LeavesOnly moment left_since old.meta.disk new.meta.disk (LeavesRecoverable old new w least)
-    pub stopped : OnErr result ((w : Whole) (least : List Row) → IsAt seen may_leave old before w least → Stopped result old new before after w least)
+    pub stopped : OnErr result ((w : Whole) (least : List Row) → IsAt seen may_leave old before w least →
+        (after ≡ before) × HasStopped may_leave old new w least)
     pub full : IsErrOf result LogFull → 262144 ≤ length before.entries
 
   -- The same of an entry that was taken out of the noted store.

@@ -78,6 +78,7 @@ impl<D: Mdisk, M: MetaDisk> Noted<D, M> {
         requires room { length history.old.entries ≤ 262144 }
         ensures made { StepMade M.seen M.may_leave M.moment M.left_since result self.old self.new history.old history.new }
         ensures full { IsErrOf result NotedStop.LogFull → (w : Whole) → StandsFor self.old.store w → AsksSome self.old.store.control.grain self.old.script w }
+        ensures lanes { KeepLanes self.old.store self.new.store }
         ensures live { self.new.live ≡ self.old.live }
     {
         match self.script.next(&self.store)? {

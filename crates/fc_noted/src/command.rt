@@ -170,14 +170,20 @@ impl<D: Mdisk, M: MetaDisk> Noted<D, M> {
     /// The entry of a command that is done: it leads on to what the noted store then stands for, once it is logged. Until then, and
     /// behind an error, a stop leaves what may be recovered with the command as one that is asked.
     fn command_entry(&mut self, command: Command) -> Result<Entry, NotedStop>
-        requires at { (w : Whole) × (least : List Row) × (history : HistoryState) × IsNotedAt M.seen M.may_leave self.old history w least × (length history.entries < 262144) }
-        requires next { (w : Whole) → StandsFor self.old.store w → IsNext self.old.store.control.grain w (Some (Asked.Command command)) (agenda_of self.old.store.control.grain self.old.script) }
+        requires at { (w : Whole) × (least : List Row) × (history : HistoryState) ×
+            IsNotedAt M.seen M.may_leave self.old history w least × (length history.entries < 262144) }
+        requires next { (w : Whole) → StandsFor self.old.store w →
+            IsNext self.old.store.control.grain w (Some (Asked.Command command)) (agenda_of self.old.store.control.grain self.old.script) }
         requires decided { IsDecided command }
-        ensures leads { IfOk result (λ entry. (history : HistoryState) → length history.entries < 262144 → LeadsOn M.seen M.may_leave self.old history entry self.new) }
+        ensures leads { IfOk result (λ entry.
+            (history : HistoryState) → length history.entries < 262144 → LeadsOn M.seen M.may_leave self.old history entry self.new) }
         ensures asked { IfOk result (λ entry. IsAsked 0 0 (Request.Command command) entry) }
-        ensures any_moment { (history : HistoryState) (w : Whole) (least : List Row) → length history.entries < 262144 → IsNotedAt M.seen M.may_leave self.old history w least →
+        ensures any_moment { (history : HistoryState) (w : Whole) (least : List Row) →
+            length history.entries < 262144 → IsNotedAt M.seen M.may_leave self.old history w least →
             LeavesOnly M.moment M.left_since (disk_of self.old.meta) (disk_of self.new.meta) (LeavesRecoverable self.old self.new w least) }
-        ensures stopped { (history : HistoryState) (w : Whole) (least : List Row) → length history.entries < 262144 → IsNotedAt M.seen M.may_leave self.old history w least → HasStopped M.may_leave self.old self.new w least }
+        ensures stopped { (history : HistoryState) (w : Whole) (least : List Row) →
+            length history.entries < 262144 → IsNotedAt M.seen M.may_leave self.old history w least →
+            HasStopped M.may_leave self.old self.new w least }
         ensures not_log { IsErrOf result NotedStop.LogFull → ⊥ }
         ensures grain { OnOk result (self.new.store.control.grain ≡ self.old.store.control.grain) }
         ensures lanes { EachLane IsSameLane self.old.store.lanes self.new.store.lanes }
@@ -190,22 +196,28 @@ impl<D: Mdisk, M: MetaDisk> Noted<D, M> {
         }
     }
 
-    /// Settles all, and decides a command and does it: what is decided, and the effects of both where the settling has any.
+    /// Settles all, decides a command and does it: what was decided, and the effects of both decisions where the settling had any.
     fn carry_out(&mut self, command: &Command) -> Result<(Decision, List<Effect>), NotedStop>
-        requires at { (w : Whole) × (least : List Row) × (history : HistoryState) × IsNotedAt M.seen M.may_leave self.old history w least × (length history.entries < 262144) }
-        requires next { (w : Whole) → StandsFor self.old.store w → IsNext self.old.store.control.grain w (Some (Asked.Command command.now)) (agenda_of self.old.store.control.grain self.old.script) }
+        requires at { (w : Whole) × (least : List Row) × (history : HistoryState) ×
+            IsNotedAt M.seen M.may_leave self.old history w least × (length history.entries < 262144) }
+        requires next { (w : Whole) → StandsFor self.old.store w →
+            IsNext self.old.store.control.grain w (Some (Asked.Command command.now)) (agenda_of self.old.store.control.grain self.old.script) }
         requires decided { IsDecided command.now }
         ensures leads { IfOk result (λ done. (entry : EntryValue) → IsEntryOf command.now done.0 done.1 entry →
             (history : HistoryState) → length history.entries < 262144 → LeadsOn M.seen M.may_leave self.old history entry self.new) }
-        ensures any_moment { (history : HistoryState) (w : Whole) (least : List Row) → length history.entries < 262144 → IsNotedAt M.seen M.may_leave self.old history w least →
+        ensures any_moment { (history : HistoryState) (w : Whole) (least : List Row) →
+            length history.entries < 262144 → IsNotedAt M.seen M.may_leave self.old history w least →
             LeavesOnly M.moment M.left_since (disk_of self.old.meta) (disk_of self.new.meta) (LeavesRecoverable self.old self.new w least) }
-        ensures stopped { (history : HistoryState) (w : Whole) (least : List Row) → length history.entries < 262144 → IsNotedAt M.seen M.may_leave self.old history w least → HasStopped M.may_leave self.old self.new w least }
+        ensures stopped { (history : HistoryState) (w : Whole) (least : List Row) →
+            length history.entries < 262144 → IsNotedAt M.seen M.may_leave self.old history w least →
+            HasStopped M.may_leave self.old self.new w least }
         ensures not_log { IsErrOf result NotedStop.LogFull → ⊥ }
         ensures grain { OnOk result (self.new.store.control.grain ≡ self.old.store.control.grain) }
         ensures lanes { EachLane IsSameLane self.old.store.lanes self.new.store.lanes }
         ensures script { self.new.script ≡ self.old.script }
         ensures live { self.new.live ≡ self.old.live }
     {
+        // (this does nothing: it is known by it what a command leaves on all disks)
         commanded_law();
         let settling = self.settle()?;
         let decision = self.store.plan_command(command)?;

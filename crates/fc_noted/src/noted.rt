@@ -172,6 +172,15 @@ impl<D: Mdisk, M: MetaDisk> Noted<D, M> {
         self.live
     }
 
+    /// The store, and the disk of metadata. It takes no memory.
+    pub fn into_store(self) -> (Store<D>, M)
+        ensures store { result.0 ≡ self.store }
+        ensures meta { result.1 ≡ self.meta.disk }
+    {
+        let Noted { store, meta, .. } = self;
+        (store, meta.into_disk())
+    }
+
     /// The disks of data lane by lane, each with the name of its volume, and the disk of metadata. The disk of a volume that metadata
     /// doesn't know yet has no name.
     ///

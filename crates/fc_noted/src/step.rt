@@ -74,6 +74,7 @@ impl<D: Mdisk, M: MetaDisk> Noted<D, M> {
         requires can { CanStep M.seen M.may_leave self.old history.old }
         ensures made { StepMade M.seen M.may_leave M.moment M.left_since result self.old self.new history.old history.new }
         ensures full { IsErrOf result NotedStop.LogFull → (w : Whole) (least : List Row) → IsAt M.seen M.may_leave self.old history.old w least → AsksSome self.old.store.control.grain self.old.script w }
+        ensures lanes { KeepLanes self.old.store self.new.store }
         ensures live { IsTrue self.new.live ↔ OnErr result ⊥ }
     {
         let made = self.step(history);
@@ -88,6 +89,7 @@ impl<D: Mdisk, M: MetaDisk> Noted<D, M> {
         requires can { CanStep M.seen M.may_leave self.old history.old }
         ensures made { StepMade M.seen M.may_leave M.moment M.left_since result self.old self.new history.old history.new }
         ensures full { IsErrOf result NotedStop.LogFull → (w : Whole) (least : List Row) → IsAt M.seen M.may_leave self.old history.old w least → AsksSome self.old.store.control.grain self.old.script w }
+        ensures lanes { KeepLanes self.old.store self.new.store }
         ensures live { self.new.live ≡ self.old.live }
     {
         match self.under_way.take() {

@@ -1,18 +1,12 @@
 -- A command is settled, decided and done.
-use Rattle.std.proofs.Common.{◌≡◌, ℕ, ◌<◌, ◌||◌, Bool, List, is_some, sym, ap, subst, ◌∙◌}
-use Rattle.fc_kept.specs.Actions.{has_effect}
-use Rattle.fc_lane.specs.Lane.{IsSameLane}
-use Rattle.fc_lanes.specs.AllLanes.{EachLane}
-use Rattle.fc_legal.specs.Whole.{Whole}
+use Rattle.std.proofs.Common.{ℕ, ◌<◌, ◌||◌, Bool, is_some, sym, subst, ◌∙◌}
 use Rattle.fc_meta.specs.States.{IsResting}
 use Rattle.fc_stands.proofs.CommandPhases.{decision_can}
 use Rattle.fc_stands.proofs.CommandRuns.{HasRoom, can_settle}
 use Rattle.fc_stands.proofs.Frames.{all_go_on}
-use Rattle.fc_stands.specs.Store.{StoreView}
 use Rattle.law_noted.specs.Records.{removed_by}
 use Rattle.fc_noted.proofs.CommandEntry.{decides_then, done_leads, done_leaves, done_stops, good_anew, lanes_undone, settled_leaves, settled_stops, undone_leaves, undone_stops, unsettled_leaves, unsettled_stops}
 use Rattle.fc_noted.specs.Making.{AnewOr}
-use Rattle.fc_noted.specs.declared.noted.Noted.{Noted}
 use Rattle.fc_noted.proofs.noted.Noted.carry_out.Goals as goal
 
 -- ---- what each call needs

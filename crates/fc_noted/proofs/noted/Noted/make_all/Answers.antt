@@ -1,65 +1,79 @@
 -- Step by step.
-use Rattle.std.proofs.Common.{Bool, List, true, false, subst}
+use Rattle.std.proofs.Common.{Bool, List, subst}
 use Rattle.fc_changed.specs.Row.{Row}
 use Rattle.fc_legal.specs.Whole.{Whole}
 use Rattle.fc_noted.proofs.Halting.{halted, halted_limit, halted_on}
+use Rattle.fc_noted.proofs.KeepingLanes.{lanes_go_on, lanes_stay}
 use Rattle.fc_noted.proofs.Lines.{all_made, all_over, comes_first, comes_on}
 use Rattle.fc_noted.specs.Noted.{GoesOnTo, IsAt}
 use Rattle.fc_noted.proofs.noted.Noted.make_all.Goals as goal
 
 pub steps-init : goal.steps-init
 steps-init g c =
-    comes_first g.M.MetaDisk.seen g.M.MetaDisk.may_leave c.args.self.now c.args.history.now c.requires.at.0 c.requires.at.1 c.requires.at.2 c.requires.live c.requires.room
+    record {
+      comes = comes_first g.M.MetaDisk.seen g.M.MetaDisk.may_leave c.args.self.now c.args.history.now c.requires.at.0 c.requires.at.1 c.requires.at.2 c.requires.live c.requires.room;
+      lanes = lanes_stay c.args.self.now.store;
+    }
 
 pub make_step-requires : goal.make_step-requires
-make_step-requires g c = record { can = c.steps.invariant.can }
+make_step-requires g c = record { can = c.steps.invariant.comes.can }
 
 pub steps-preserved : goal.steps-preserved
 steps-preserved g c =
-    comes_on g.M.MetaDisk.seen g.M.MetaDisk.may_leave c.args.self.now c.steps.self c.args.history.now c.steps.history c.steps.invariant c.make_step.new.self c.make_step.new.history
-    (subst (λ (more : Bool). (w : Whole) (least : List Row) → IsAt g.M.MetaDisk.seen g.M.MetaDisk.may_leave c.steps.self c.steps.history w least →
-    GoesOnTo g.M.MetaDisk.seen g.M.MetaDisk.may_leave more w least c.steps.self c.steps.history c.make_step.new.self c.make_step.new.history) c.in-Ok-true.field-0-test c.in-Ok-true.ensures.made.on)
+    record {
+      comes =
+          comes_on g.M.MetaDisk.seen g.M.MetaDisk.may_leave c.args.self.now c.steps.self c.args.history.now c.steps.history c.steps.invariant.comes c.make_step.new.self c.make_step.new.history
+          (subst (λ (more : Bool). (w : Whole) (least : List Row) → IsAt g.M.MetaDisk.seen g.M.MetaDisk.may_leave c.steps.self c.steps.history w least →
+          GoesOnTo g.M.MetaDisk.seen g.M.MetaDisk.may_leave more w least c.steps.self c.steps.history c.make_step.new.self c.make_step.new.history) c.in-Ok-true.field-0-test c.in-Ok-true.ensures.made.on);
+      lanes = lanes_go_on c.args.self.now.store c.steps.self.store c.make_step.new.self.store c.steps.invariant.lanes c.in-Ok-true.ensures.lanes;
+    }
 
 pub returns-in-Ok-false-clause-answered : goal.returns-in-Ok-false-clause-answered
 returns-in-Ok-false-clause-answered g c =
-    all_made g.M.MetaDisk.seen g.M.MetaDisk.may_leave c.args.self.now c.steps.self c.args.history.now c.steps.history c.steps.invariant c.make_step.new.self c.make_step.new.history
+    all_made g.M.MetaDisk.seen g.M.MetaDisk.may_leave c.args.self.now c.steps.self c.args.history.now c.steps.history c.steps.invariant.comes c.make_step.new.self c.make_step.new.history
     (subst (λ (more : Bool). (w : Whole) (least : List Row) → IsAt g.M.MetaDisk.seen g.M.MetaDisk.may_leave c.steps.self c.steps.history w least →
     GoesOnTo g.M.MetaDisk.seen g.M.MetaDisk.may_leave more w least c.steps.self c.steps.history c.make_step.new.self c.make_step.new.history) c.in-Ok-false.field-0-test c.in-Ok-false.ensures.made.on)
 
 pub returns-in-Ok-false-clause-grain : goal.returns-in-Ok-false-clause-grain
 returns-in-Ok-false-clause-grain g c =
-    let all = all_over g.M.MetaDisk.seen g.M.MetaDisk.may_leave c.args.self.now c.steps.self c.args.history.now c.steps.history c.steps.invariant c.make_step.new.self c.make_step.new.history
+    let all = all_over g.M.MetaDisk.seen g.M.MetaDisk.may_leave c.args.self.now c.steps.self c.args.history.now c.steps.history c.steps.invariant.comes c.make_step.new.self c.make_step.new.history
     (subst (λ (more : Bool). (w : Whole) (least : List Row) → IsAt g.M.MetaDisk.seen g.M.MetaDisk.may_leave c.steps.self c.steps.history w least →
     GoesOnTo g.M.MetaDisk.seen g.M.MetaDisk.may_leave more w least c.steps.self c.steps.history c.make_step.new.self c.make_step.new.history) c.in-Ok-false.field-0-test c.in-Ok-false.ensures.made.on) in
     all.0
 
 pub returns-in-Ok-false-clause-live : goal.returns-in-Ok-false-clause-live
 returns-in-Ok-false-clause-live g c =
-    let all = all_over g.M.MetaDisk.seen g.M.MetaDisk.may_leave c.args.self.now c.steps.self c.args.history.now c.steps.history c.steps.invariant c.make_step.new.self c.make_step.new.history
+    let all = all_over g.M.MetaDisk.seen g.M.MetaDisk.may_leave c.args.self.now c.steps.self c.args.history.now c.steps.history c.steps.invariant.comes c.make_step.new.self c.make_step.new.history
     (subst (λ (more : Bool). (w : Whole) (least : List Row) → IsAt g.M.MetaDisk.seen g.M.MetaDisk.may_leave c.steps.self c.steps.history w least →
     GoesOnTo g.M.MetaDisk.seen g.M.MetaDisk.may_leave more w least c.steps.self c.steps.history c.make_step.new.self c.make_step.new.history) c.in-Ok-false.field-0-test c.in-Ok-false.ensures.made.on) in
     all.1
 
 pub returns-in-Ok-false-clause-limit : goal.returns-in-Ok-false-clause-limit
 returns-in-Ok-false-clause-limit g c =
-    let all = all_over g.M.MetaDisk.seen g.M.MetaDisk.may_leave c.args.self.now c.steps.self c.args.history.now c.steps.history c.steps.invariant c.make_step.new.self c.make_step.new.history
+    let all = all_over g.M.MetaDisk.seen g.M.MetaDisk.may_leave c.args.self.now c.steps.self c.args.history.now c.steps.history c.steps.invariant.comes c.make_step.new.self c.make_step.new.history
     (subst (λ (more : Bool). (w : Whole) (least : List Row) → IsAt g.M.MetaDisk.seen g.M.MetaDisk.may_leave c.steps.self c.steps.history w least →
     GoesOnTo g.M.MetaDisk.seen g.M.MetaDisk.may_leave more w least c.steps.self c.steps.history c.make_step.new.self c.make_step.new.history) c.in-Ok-false.field-0-test c.in-Ok-false.ensures.made.on) in
     all.2
 
 pub returns-in-Err-clause-limit : goal.returns-in-Err-clause-limit
 returns-in-Err-clause-limit g c =
-    halted_limit g.M.MetaDisk.seen g.M.MetaDisk.may_leave g.M.MetaDisk.moment g.M.MetaDisk.left_since c.args.self.now c.steps.self c.args.history.now c.steps.history c.steps.invariant
+    halted_limit g.M.MetaDisk.seen g.M.MetaDisk.may_leave g.M.MetaDisk.moment g.M.MetaDisk.left_since c.args.self.now c.steps.self c.args.history.now c.steps.history c.steps.invariant.comes
     c.make_step.new.self c.make_step.new.history c.in-Err.stop c.in-Err.ensures.made
 
 pub returns-in-Err-clause-halted : goal.returns-in-Err-clause-halted
 returns-in-Err-clause-halted g c =
-    halted g.M.MetaDisk.seen g.M.MetaDisk.may_leave g.M.MetaDisk.moment g.M.MetaDisk.left_since c.args.self.now c.steps.self c.args.history.now c.steps.history c.steps.invariant
+    halted g.M.MetaDisk.seen g.M.MetaDisk.may_leave g.M.MetaDisk.moment g.M.MetaDisk.left_since c.args.self.now c.steps.self c.args.history.now c.steps.history c.steps.invariant.comes
     c.make_step.new.self c.make_step.new.history c.in-Err.stop c.in-Err.ensures.made c.in-Err.ensures.full
 
 pub returns-clause-halted : goal.returns-clause-halted
 returns-clause-halted g c =
-    halted_on g.M.MetaDisk.seen g.M.MetaDisk.may_leave g.M.MetaDisk.moment g.M.MetaDisk.left_since c.args.self.now c.steps.self c.args.history.now c.steps.history c.steps.invariant
+    halted_on g.M.MetaDisk.seen g.M.MetaDisk.may_leave g.M.MetaDisk.moment g.M.MetaDisk.left_since c.args.self.now c.steps.self c.args.history.now c.steps.history c.steps.invariant.comes
 
 pub returns-clause-limit : goal.returns-clause-limit
-returns-clause-limit g c = c.steps.invariant.can.room
+returns-clause-limit g c = c.steps.invariant.comes.can.room
+
+pub returns-in-Ok-false-clause-lanes : goal.returns-in-Ok-false-clause-lanes
+returns-in-Ok-false-clause-lanes g c = lanes_go_on c.args.self.now.store c.steps.self.store c.make_step.new.self.store c.steps.invariant.lanes c.in-Ok-false.ensures.lanes
+
+pub returns-in-Err-clause-lanes : goal.returns-in-Err-clause-lanes
+returns-in-Err-clause-lanes g c = lanes_go_on c.args.self.now.store c.steps.self.store c.make_step.new.self.store c.steps.invariant.lanes c.in-Err.ensures.lanes

@@ -1,6 +1,11 @@
 use Rattle.fc_noted.proofs.Lines.{Comes}
+use Rattle.fc_noted.specs.Making.{KeepLanes}
 use Rattle.fc_noted.proofs.noted.Noted.make_all.Given as goal
 
--- the steps so far brought the script of the line to what is left of it
+-- the steps so far brought the script of the line to what is left of it, and kept the disks of each lane
 abbrev pub invariant-steps : goal.invariant-steps
-invariant-steps g l = Comes g.M.MetaDisk.seen g.M.MetaDisk.may_leave l.initial.self l.initial.history l.self l.history
+invariant-steps g l =
+    record {
+      comes : Comes g.M.MetaDisk.seen g.M.MetaDisk.may_leave l.initial.self l.initial.history l.self l.history;
+      lanes : KeepLanes l.initial.self.store l.self.store;
+    }
