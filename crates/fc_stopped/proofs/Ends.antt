@@ -1,27 +1,31 @@
 -- How a call ends: by how far its session came, or by the status of its session.
 use Rattle.std.proofs.Common.{◌≡◌, ◌⊎◌, ℕ, ◌≤◌, true, false, List, [], ◌++◌, inl, inr, sym, ap, subst, ◌∙◌, append_assoc, Option, Some, None, Ok, Err}
 use Rattle.std.proofs.lemmas.List.{append-nil}
+use Rattle.fc_base.specs.declared.size.GrainSize.TheVariants.{K64}
 use Rattle.fc_call.specs.Call.{Call}
 use Rattle.fc_call.specs.declared.status.Status.{Status}
 use Rattle.fc_call.specs.declared.status.Status.TheVariants as status
 use Rattle.fc_entry.specs.Text.{history_text}
+use Rattle.fc_format.specs.Halves.{Found}
 use Rattle.fc_grains.specs.Grains.{pool_of}
-use Rattle.fc_io.specs.Sink.{AddsFront, held_with}
+use Rattle.fc_io.specs.Sink.{AddsFront, SinkState}
 use Rattle.fc_legal.specs.Whole.{Whole}
 use Rattle.fc_marks.specs.declared.error.NotedStop.{NotedStop}
 use Rattle.fc_marks.specs.declared.error.NotedStop.TheVariants.{LogFull, MetaFailed, MetaFull, NoMemory}
 use Rattle.fc_mdisk.specs.Disk.{DiskState}
+use Rattle.fc_recovery_text.specs.Recovering.{IsFirstText}
 use Rattle.fc_run.specs.Input.{OfFirstTaken, input_limit}
 use Rattle.fc_run.specs.Output.{IsWritten}
 use Rattle.fc_run.specs.declared.ended.Ended.{Ended}
 use Rattle.fc_run.specs.declared.ended.Ended.TheVariants as ended
 use Rattle.fc_stopped.proofs.Putting.{adds_all}
 use Rattle.fc_stopped.proofs.Sessions.{CallTo, CameFar, TakesSome}
-use Rattle.fc_stopped.specs.Ending.{StatePut, TextEnds, over_disks}
+use Rattle.fc_stopped.specs.Ending.{EndsUnopened, StatePut, TextEnds, over_disks}
 use Rattle.fc_stopped.specs.Far.{far_of}
 use Rattle.fc_stopped.specs.Stopped.{AnswersSome, ComeBack, EndsBy, IsState}
 use Rattle.fc_stopped.specs.Text.{far_text}
 use Rattle.fc_stopped.specs.declared.far.Far.{Far}
+use Rattle.fc_stopped.specs.declared.far.Far.TheVariants.{ToCall, ToFull}
 
 -- ---- what is recovered is written
 
@@ -88,6 +92,20 @@ module _ (number : ℕ) (call : Call) (bytes : List ℕ) (last : Whole) where
       TextEnds (history_text call.history) asked is call.sink call.sink' → EndsBy number is call last bytes
   short_ends e stop asked is short to some (inl text) = subst Ends (sym text.0) (written_ends e stop asked short to text.1)
   short_ends e stop asked is short to some (inr text) = subst Ends (sym text.0) (unwritten some text.1)
+
+-- ---- there is no entry
+
+pub unopened_call : (number : ℕ) (far : Far) (stop : NotedStop) (found : Found) (is : Status) (before after : SinkState) → far ≡ ToCall number → stop ≡ MetaFailed →
+    StatePut (far_text far) (IsFirstText K64 found) is before after → EndsUnopened number found stop is before after
+unopened_call number far stop found is before after same at put =
+    subst (λ (s : NotedStop). EndsUnopened number found s is before after) (sym at)
+    (subst (λ (f : Far). StatePut (far_text f) (IsFirstText K64 found) is before after) same put)
+
+pub unopened_full : (number : ℕ) (far : Far) (stop : NotedStop) (found : Found) (is : Status) (before after : SinkState) → far ≡ ToFull → stop ≡ MetaFull →
+    StatePut (far_text far) (IsFirstText K64 found) is before after → EndsUnopened number found stop is before after
+unopened_full number far stop found is before after same at put =
+    subst (λ (s : NotedStop). EndsUnopened number found s is before after) (sym at)
+    (subst (λ (f : Far). StatePut (far_text f) (IsFirstText K64 found) is before after) same put)
 
 -- ---- the disks come back
 

@@ -8,3 +8,6 @@ pub mod Putting
 pub mod Found
 pub mod Starved
 pub mod Ends
+pub mod Giving
+pub mod Opening
+pub mod Stops

@@ -67,8 +67,8 @@ abbrev pub GotAll : Call → List ℕ → Type 0
 GotAll call text = (call.sink'.held ≡ held_with call.sink.held text) × (call.sink'.sent ≡ call.sink'.held)
 
 -- It got a front of a text that begins with the history's.
-abbrev pub GotFrontOf : Call → Type 0
-GotFrontOf call = (behind : List ℕ) × AddsFront call.sink.held (history_text call.history ++ behind) call.sink'.held
+abbrev pub GotHistoryFront : Call → Type 0
+GotHistoryFront call = (behind : List ℕ) × AddsFront call.sink.held (history_text call.history ++ behind) call.sink'.held
 
 -- By the status: which lines are answered, and what was written.
 abbrev pub EndsBy : ℕ → Status → Call → Whole → List ℕ → Type 0
@@ -96,9 +96,9 @@ EndsBy number status.WriteFault call last bytes =
     HasRisen call.sink.faults call.sink'.faults
     × (length bytes ≤ input_limit + 1)
     × OfFirstTaken call.source' bytes (AnswersSome call last)
-    × GotFrontOf call
+    × GotHistoryFront call
 EndsBy number status.NoMemory call last bytes =
-    (length bytes ≤ input_limit) × OfFirstTaken call.source' bytes (AnswersSome call last) × GotFrontOf call
+    (length bytes ≤ input_limit) × OfFirstTaken call.source' bytes (AnswersSome call last) × GotHistoryFront call
 EndsBy number other call last bytes = ⊥
 
 -- The disks come back, as many of each kind; for want of memory nothing is said of them.

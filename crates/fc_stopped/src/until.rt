@@ -8,6 +8,7 @@ ghost use Rattle.fc_entry.specs.Written.{Written};
 ghost use Rattle.fc_format.specs.Halves.{Image as FoundImage, recovered};
 ghost use Rattle.fc_grains.specs.Grains.{pool_of};
 ghost use Rattle.fc_image.specs.declared.image.MetaImage.{MetaImage as Said};
+ghost use Rattle.fc_kept.specs.Disks.{NamedDisk};
 ghost use Rattle.fc_legal.specs.Whole.{Whole};
 ghost use Rattle.fc_mdisk.specs.Disk.{DiskState, IsFresh};
 ghost use Rattle.fc_metadisk.specs.Stop.{StopLeaves, found_after, new_stop};
@@ -72,7 +73,7 @@ fn add_main(alloc: Global, history: &mut History) -> Result<(), NoMemory>
 fn give_lane<D: Mdisk>(lane: LaneDisks<D>, disks: &mut Vec<D>)
     requires room { vec_len disks.old + length lane ≤ vec_capacity disks.old }
     ensures given { map D.meaning disks.new.items ≡ map D.meaning disks.old.items ++ own_disks lane }
-    ensures room { vec_capacity disks.new ≡ vec_capacity disks.old }
+    ensures room { vec_capacity disks.old ≤ vec_capacity disks.new }
 {
     let mut left = VecDeque::from(lane.into_vec());
     while let Some(named) = left.pop_front() {

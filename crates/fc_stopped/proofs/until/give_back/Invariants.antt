@@ -8,7 +8,7 @@ invariant-loop-lane g l = record {
   done : List (List NamedDisk);
   split : done ++ l.left.items ≡ l.fn.lanes.items;
   given : map g.D.Mdisk.meaning l.disks.items ≡ all_disks done;
-  capacity : vec_capacity l.disks ≡ vec_capacity l.fn.disks;
+  room : vec_len l.disks + length (all_disks l.left.items) ≤ vec_capacity l.disks;
 }
 
 abbrev pub decreases-loop-lane : goal.decreases-loop-lane

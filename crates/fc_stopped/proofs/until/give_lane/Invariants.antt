@@ -9,7 +9,7 @@ invariant-loop-named g l = record {
   split : done ++ l.left.items ≡ l.fn.lane;
   given : map g.D.Mdisk.meaning l.disks.items ≡ map g.D.Mdisk.meaning l.fn.disks.items ++ own_disks done;
   room : vec_len l.disks + length l.left.items ≤ vec_capacity l.disks;
-  capacity : vec_capacity l.disks ≡ vec_capacity l.fn.disks;
+  capacity : vec_capacity l.fn.disks ≤ vec_capacity l.disks;
 }
 
 abbrev pub decreases-loop-named : goal.decreases-loop-named
