@@ -1,44 +1,48 @@
 -- The end of a call: what its parts leave.
-use Rattle.std.specs.Prelude.{◌≡◌, ◌⊎◌, ℕ, Bool, true, false, List, [], ◌++◌, map, Result, Ok, Err}
-use Rattle.std.specs.Bool.{OnFalse}
+use Rattle.std.specs.Prelude.{◌≡◌, ◌⊎◌, ℕ, true, false, List, [], ◌++◌, map, Result, Ok, Err}
 use Rattle.std.specs.List.{flat_map}
+use Rattle.fc_base.specs.Count.{HasRisen}
 use Rattle.fc_base.specs.declared.size.GrainSize.TheVariants.{K64}
 use Rattle.fc_call.specs.declared.status.Status.{Status}
 use Rattle.fc_call.specs.declared.status.Status.TheVariants as status
-use Rattle.fc_changed.specs.Row.{Row}
-use Rattle.fc_entry.specs.Written.{Written}
 use Rattle.fc_format.specs.Halves.{Found, Image, NoImage, recovered}
 use Rattle.fc_image.specs.declared.image.MetaImage.{MetaImage}
 use Rattle.fc_io.specs.Sink.{AddsFront, SinkState, held_with}
 use Rattle.fc_kept.specs.Disks.{NamedDisk}
 use Rattle.fc_kept.specs.Sound.{IsSoundImage}
-use Rattle.fc_grains.specs.Grains.{pool_of}
-use Rattle.fc_lanes.specs.Dealing.{disks_in}
-use Rattle.fc_legal.specs.Whole.{Whole}
 use Rattle.fc_marks.specs.declared.error.NotedStop.{NotedStop}
 use Rattle.fc_marks.specs.declared.error.NotedStop.TheVariants.{LogFull, MetaFailed, MetaFull, NoMemory}
 use Rattle.fc_mdisk.specs.Disk.{DiskState}
 use Rattle.fc_metadisk.specs.Stop.{StopLeaves, StopState}
 use Rattle.fc_noted.specs.Noted.{IsNotedAt, NoHistory}
 use Rattle.fc_noted.specs.declared.noted.Noted.{Noted}
-use Rattle.fc_recovery_text.specs.Putting.{StateIsPut}
+use Rattle.fc_owner.specs.FirstTold.{first_told}
+use Rattle.fc_owner.specs.StoreRuns.{Start}
 use Rattle.fc_recovery_text.specs.Recovering.{IsFirstText}
-use Rattle.fc_stopped.specs.Text.{far_text}
-use Rattle.fc_stopped.specs.declared.far.Far.TheVariants.{ToCall, ToFull}
 use Rattle.fc_recovery_text.specs.declared.state.Unwritten.{Unwritten}
 use Rattle.fc_recovery_text.specs.declared.state.Unwritten.TheVariants.{Failed, NoMemory as WantsMemory}
+use Rattle.fc_run.specs.Output.{IsWritten}
+use Rattle.fc_stopped.specs.Lines.{HasLanes}
+use Rattle.fc_stopped.specs.Text.{far_text}
+use Rattle.fc_stopped.specs.declared.far.Far.TheVariants.{ToCall, ToFull}
 
--- The disks of all lanes, lane by lane.
+-- Grains of 64 kilobytes, over these disks.
+abbrev pub over_disks : List DiskState → Start
+over_disks disks = record { grain = K64; disks = disks }
+
+-- The disks of a lane; and those of all lanes, lane by lane.
+abbrev pub own_disks : List NamedDisk → List DiskState
+own_disks disks = map (λ (d : NamedDisk). d.disk) disks
+
 abbrev pub all_disks : List (List NamedDisk) → List DiskState
-all_disks lanes = flat_map (map (λ (d : NamedDisk). d.disk)) lanes
+all_disks lanes = flat_map own_disks lanes
 
--- A noted store before the first line, over these disks, of which the disk of metadata stops at this call.
-pub record IsOpened {C : Type 0} (call : ℕ) (n : Noted C StopState) (first : Whole) (old : List DiskState) : Type 0 where
-  pub stops : n.meta.disk.stop ≡ call
+-- A noted store before the first line, over these disks.
+pub record IsOpened {C : Type 0} (n : Noted C StopState) (old : List DiskState) : Type 0 where
   pub live : n.live ≡ true
   pub grain : n.store.control.grain ≡ K64
-  pub at : IsNotedAt (λ (d : StopState). d.bytes) StopLeaves n NoHistory first []
-  pub disks : disks_in n.store.lanes ≡ pool_of old
+  pub lanes : HasLanes (over_disks old) n.store.lanes
+  pub at : IsNotedAt (λ (d : StopState). d.bytes) StopLeaves n NoHistory (first_told old) []
 
 -- Why the first image isn't on the disk, or isn't known to be: what stands there is none, or one without volumes.
 pub record IsUnopened (bytes : List ℕ) (stop : NotedStop) : Type 0 where
@@ -47,19 +51,16 @@ pub record IsUnopened (bytes : List ℕ) (stop : NotedStop) : Type 0 where
 
 -- ---- what is written
 
--- The text, all of it sent on; failed, a front of it.
-pub record TextPut (text : List ℕ) (before : SinkState) (failed : Bool) (after : SinkState) : Type 0 where
-  pub written : Written before text false after ⊎ ((failed ≡ true) × AddsFront before.held text after.held)
-  pub sent : OnFalse failed (after.sent ≡ after.held)
-
+-- The call ends as it was to, with the text written; or that failed.
 abbrev pub TextEnds : List ℕ → Status → Status → SinkState → SinkState → Type 0
 TextEnds text asked result before after =
-    ((result ≡ asked) × TextPut text before false after) ⊎ ((result ≡ status.WriteFault) × TextPut text before true after)
+    ((result ≡ asked) × IsWritten before text false after) ⊎ ((result ≡ status.WriteFault) × IsWritten before text true after)
 
 -- What was written is sent on; or the call ends by why it isn't.
 abbrev pub StatusWritten : Result (Unit {0}) Unwritten → Status → SinkState → SinkState → Type 0
 StatusWritten (Ok done) is before after =
-    (after.held ≡ before.held) × (((is ≡ status.Done) × (after.sent ≡ after.held)) ⊎ (is ≡ status.WriteFault))
+    (after.held ≡ before.held)
+    × (((is ≡ status.Done) × (after.sent ≡ after.held)) ⊎ ((is ≡ status.WriteFault) × HasRisen before.faults after.faults))
 StatusWritten (Err Failed) is before after = (is ≡ status.WriteFault) × (after ≡ before)
 StatusWritten (Err WantsMemory) is before after = (is ≡ status.NoMemory) × (after ≡ before)
 
@@ -67,7 +68,8 @@ StatusWritten (Err WantsMemory) is before after = (is ≡ status.NoMemory) × (a
 abbrev pub StatePut : List ℕ → (List ℕ → Type 0) → Status → SinkState → SinkState → Type 0
 StatePut known IsText status.Done before after =
     (text : List ℕ) × IsText text × (after.held ≡ held_with before.held (known ++ text)) × (after.sent ≡ after.held)
-StatePut known IsText status.WriteFault before after = (text : List ℕ) × AddsFront before.held (known ++ text) after.held
+StatePut known IsText status.WriteFault before after =
+    (text : List ℕ) × AddsFront before.held (known ++ text) after.held × HasRisen before.faults after.faults
 StatePut known IsText status.NoMemory before after = (text : List ℕ) × AddsFront before.held (known ++ text) after.held
 StatePut known IsText other before after = ⊥
 

@@ -1,5 +1,5 @@
 -- How a call ends that runs a session until a call of its disk of metadata.
-use Rattle.std.specs.Prelude.{◌≡◌, ◌⊎◌, ℕ, ◌+◌, ◌≤◌, List, [], ◌∷◌, ◌++◌, length, map, take, Option}
+use Rattle.std.specs.Prelude.{◌≡◌, ◌⊎◌, ℕ, ◌+◌, ◌≤◌, List, [], ◌∷◌, ◌++◌, length, map, Option}
 use Rattle.fc_base.specs.Count.{HasRisen}
 use Rattle.fc_base.specs.declared.request.Request.{Request}
 use Rattle.fc_base.specs.declared.size.GrainSize.TheVariants.{K64}
@@ -13,38 +13,32 @@ use Rattle.fc_entry.specs.Lines.{all_lines, ended_lines}
 use Rattle.fc_entry.specs.Text.{history_text}
 use Rattle.fc_grains.specs.Grains.{pool_of}
 use Rattle.fc_image.specs.declared.image.MetaImage.{MetaImage}
-use Rattle.fc_io.specs.Sink.{AddsFront, SinkState, held_with}
-use Rattle.fc_io.specs.Source.{SourceState}
+use Rattle.fc_io.specs.Sink.{AddsFront, held_with}
 use Rattle.fc_kept.specs.Disks.{NamedDisk}
 use Rattle.fc_kept.specs.Images.{kept_in}
 use Rattle.fc_kept.specs.OneGrain.{Another}
 use Rattle.fc_kept.specs.Recoverable.{Recoverable}
-use Rattle.fc_lanes.specs.Dealing.{pools_dealt}
-use Rattle.fc_base.specs.declared.limits.TheConstants.{LANES}
 use Rattle.fc_legal.specs.Added.{IsOf}
 use Rattle.fc_legal.specs.Legal.{IsLegal}
 use Rattle.fc_legal.specs.Run.{IsPartialRun, IsRun, WantsMore}
-use Rattle.fc_legal.specs.Whole.{Whole, opened}
+use Rattle.fc_legal.specs.Whole.{Whole}
 use Rattle.fc_mdisk.specs.Disk.{DiskState}
+use Rattle.fc_owner.specs.FirstTold.{first_told}
 use Rattle.fc_run.specs.Input.{Gave, IsAtEnd, OfFirstTaken, input_limit}
-use Rattle.fc_stopped.specs.Reading.{reading}
-use Rattle.fc_recovery_text.specs.Recovering.{AreRead, IsImageText}
+use Rattle.fc_stopped.specs.Reading.{stop_reading}
+use Rattle.fc_recovery_text.specs.Recovering.{IsImageText}
 use Rattle.fc_recovery_text.specs.Text.{no_image}
 use Rattle.fc_stopped.specs.Text.{far_text}
 use Rattle.fc_stopped.specs.declared.far.Far.{Far}
-use Rattle.fc_stopped.specs.declared.far.Far.TheVariants.{ToEnd, ToCall, ToFull}
+use Rattle.fc_stopped.specs.declared.far.Far.TheVariants.{ToEnd, ToCall}
 
 -- ---- the lines
 
--- What is told before the first entry.
-abbrev pub first_told : List DiskState → Whole
-first_told disks = opened (pools_dealt LANES disks)
-
 abbrev pub AnswersAll : Call → Whole → List (List ℕ) → Type 0
-AnswersAll call last lines = IsRun K64 reading (first_told call.disks) (map single lines) call.history.entries last
+AnswersAll call last lines = IsRun K64 stop_reading (first_told call.disks) (map single lines) call.history.entries last
 
 abbrev pub AnswersSome : Call → Whole → List (List ℕ) → Type 0
-AnswersSome call last lines = IsPartialRun K64 reading (first_told call.disks) (map single lines) call.history.entries last
+AnswersSome call last lines = IsPartialRun K64 stop_reading (first_told call.disks) (map single lines) call.history.entries last
 
 -- A session that came to its end was read and answered whole; else some first lines are answered, the last maybe in part.
 abbrev pub LinesBy : Far → Call → Whole → List ℕ → Type 0
@@ -73,8 +67,8 @@ abbrev pub GotAll : Call → List ℕ → Type 0
 GotAll call text = (call.sink'.held ≡ held_with call.sink.held text) × (call.sink'.sent ≡ call.sink'.held)
 
 -- It got a front of a text that begins with the history's.
-abbrev pub GotFront : Call → Type 0
-GotFront call = (behind : List ℕ) × AddsFront call.sink.held (history_text call.history ++ behind) call.sink'.held
+abbrev pub GotHistoryFront : Call → Type 0
+GotHistoryFront call = (behind : List ℕ) × AddsFront call.sink.held (history_text call.history ++ behind) call.sink'.held
 
 -- By the status: which lines are answered, and what was written.
 abbrev pub EndsBy : ℕ → Status → Call → Whole → List ℕ → Type 0
@@ -95,23 +89,24 @@ EndsBy number status.TooLong call last bytes =
     × GotAll call (history_text call.history)
 EndsBy number status.LogFull call last bytes =
     (length bytes ≤ input_limit)
-    × OfFirstTaken call.source' bytes (λ lines. WantsMore K64 reading (first_told call.disks) (map single lines) call.history.entries last)
+    × OfFirstTaken call.source' bytes (λ lines. WantsMore K64 stop_reading (first_told call.disks) (map single lines) call.history.entries last)
     × (length call.history.entries ≡ 262144)
     × GotAll call (history_text call.history)
 EndsBy number status.WriteFault call last bytes =
     HasRisen call.sink.faults call.sink'.faults
     × (length bytes ≤ input_limit + 1)
     × OfFirstTaken call.source' bytes (AnswersSome call last)
-    × GotFront call
+    × GotHistoryFront call
 EndsBy number status.NoMemory call last bytes =
-    (length bytes ≤ input_limit) × OfFirstTaken call.source' bytes (AnswersSome call last) × GotFront call
+    (length bytes ≤ input_limit) × OfFirstTaken call.source' bytes (AnswersSome call last) × GotHistoryFront call
 EndsBy number other call last bytes = ⊥
 
--- The history is legal, and the disks come back, as many of each kind; for want of memory nothing is said of them.
-abbrev pub DisksBy : Status → Call → Type 0
-DisksBy status.NoMemory call = Unit {0}
-DisksBy other call = pool_of call.disks' ≡ pool_of call.disks
+-- The disks come back, as many of each kind; for want of memory nothing is said of them.
+abbrev pub ComeBack : Status → (old new : List DiskState) → Type 0
+ComeBack status.NoMemory old new = Unit {0}
+ComeBack other old new = pool_of new ≡ pool_of old
 
+-- The history is legal, and all this holds of one thing that is told at its end.
 pub record StopEnds (number : ℕ) (call : Call) : Type 0 where
   pub last : Whole
   pub legal : IsLegal K64 (first_told call.disks) call.history.entries last
@@ -119,4 +114,4 @@ pub record StopEnds (number : ℕ) (call : Call) : Type 0 where
   pub bytes : List ℕ
   pub gave : Gave call.source bytes call.source'
   pub ends : EndsBy number call.status call last bytes
-  pub disks : DisksBy call.status call
+  pub disks : ComeBack call.status call.disks call.disks'

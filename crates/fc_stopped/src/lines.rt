@@ -1,12 +1,14 @@
 //! A noted store answers the lines of a session.
 
-ghost use Rattle.std.specs.Prelude.{◌≡◌, ◌≤◌, Err, List, Ok, IfOk, length, true, ℕ};
+ghost use Rattle.std.specs.Prelude.{◌≡◌, ◌≤◌, List, Ok, IfOk, length, true, ℕ};
 ghost use Rattle.fc_blocks.specs.Reading.{script_line};
 ghost use Rattle.fc_changed.specs.Row.{Row};
 ghost use Rattle.fc_legal.specs.Whole.{Whole};
+ghost use Rattle.fc_noted.specs.Making.{KeepLanes};
 ghost use Rattle.fc_noted.specs.Noted.{IsNotedAt};
-ghost use Rattle.fc_stopped.specs.Lines.{LineIsAnswered, Start, noted_runs, stop_told};
-ghost use Rattle.fc_stopped.specs.Reading.{own_reading, without_blocks};
+ghost use Rattle.fc_owner.specs.StoreRuns.{Start};
+ghost use Rattle.fc_stopped.specs.Lines.{LineIsAnswered, noted_runs, stop_told};
+ghost use Rattle.fc_stopped.specs.Reading.{own_fault, own_reading, without_blocks};
 
 use fc_base::command::{Command, Line, Scope, ScriptLine};
 use fc_base::fault::WordFault;
@@ -38,17 +40,15 @@ fn without_blocks(line: Line) -> ScriptLine
     ensures { result ≡ script_line (without_blocks (Ok line)) }
 {
     match line {
-        Line::Command(Command::Mkpreset { .. })
-        | Line::Together
-        | Line::Actor { .. }
-        | Line::End => ScriptLine::Unread(WordFault::UnknownCommand),
+        Line::Command(Command::Mkpreset { .. }) | Line::Together | Line::Actor { .. } | Line::End =>
+            ScriptLine::Unread(WordFault::UnknownCommand),
         other => ScriptLine::Read(other),
     }
 }
 
 /// The fault of a line as it is answered here: `actor` and `end` name no line.
 fn fault_of(fault: WordFault) -> WordFault
-    ensures { script_line (Err result) ≡ script_line (without_blocks (Err fault)) }
+    ensures { result ≡ own_fault fault }
 {
     match fault {
         WordFault::NotInBlock => WordFault::UnknownCommand,
@@ -86,6 +86,8 @@ impl<D: Mdisk, M: MetaDisk> NotedLines<D, M> {
         requires read { (bytes : List ℕ) × (line ≡ script_line (own_reading bytes)) }
         ensures answered { (bytes : List ℕ) (w : Whole) (least : List Row) → line ≡ script_line (own_reading bytes) →
             IsNotedAt M.seen M.may_leave self.old.noted history.old w least → LineIsAnswered M.seen M.may_leave result self.old.noted self.new.noted bytes w history.old history.new }
+        ensures lanes { KeepLanes self.old.noted.store self.new.noted.store }
+        ensures limit { length history.new.entries ≤ 262144 }
         ensures others { self.new ≡ record self.old { noted = self.new.noted } }
     {
         match line {

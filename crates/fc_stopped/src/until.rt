@@ -1,21 +1,27 @@
 //! A session is run until a call of its disk of metadata.
 
-ghost use Rattle.std.specs.Prelude.{◌≡◌, ◌<◌, ◌≤◌, ◌^◌, ◌++◌, [], List, OnErr, OnOk, is_err, length, map, vec_capacity, vec_len, ℕ};
+ghost use Rattle.std.specs.Prelude.{◌≡◌, ◌<◌, ◌≤◌, ◌^◌, ◌+◌, ◌++◌, [], List, OnErr, OnOk, is_err, length, map, vec_capacity, vec_len, ℕ};
 ghost use Rattle.std.specs.List.{All};
 ghost use Rattle.fc_call.specs.Call.{empty};
 ghost use Rattle.fc_entry.specs.Text.{HasNames, history_text};
 ghost use Rattle.fc_entry.specs.Written.{Written};
 ghost use Rattle.fc_format.specs.Halves.{Image as FoundImage, recovered};
+ghost use Rattle.fc_grains.specs.Grains.{pool_of};
 ghost use Rattle.fc_image.specs.declared.image.MetaImage.{MetaImage as Said};
+ghost use Rattle.fc_kept.specs.Disks.{NamedDisk};
+ghost use Rattle.fc_legal.specs.Whole.{Whole};
 ghost use Rattle.fc_mdisk.specs.Disk.{DiskState, IsFresh};
-ghost use Rattle.fc_metadisk.specs.Stop.{found_after, new_stop};
+ghost use Rattle.fc_metadisk.specs.Stop.{StopLeaves, found_after, new_stop};
 ghost use Rattle.fc_noted.specs.Noted.{NoHistory};
+ghost use Rattle.fc_noted.specs.Stopping.{Leaves};
 ghost use Rattle.fc_recovered.specs.Recovered.{CanRecover};
-ghost use Rattle.fc_run.specs.Takes.{EachGave};
-ghost use Rattle.fc_stopped.specs.Ending.{EndsUnopened, IsOpened, IsUnopened, StatePut, StatusWritten, TextEnds, TextPut, all_disks};
 ghost use Rattle.fc_recovery_text.specs.Recovering.{IsFoundGood, IsStateText, KeepKinds};
+ghost use Rattle.fc_run.specs.Output.{IsWritten};
+ghost use Rattle.fc_run.specs.Takes.{EachGave};
+ghost use Rattle.fc_stopped.specs.Ending.{EndsUnopened, IsOpened, IsUnopened, StatePut, StatusWritten, TextEnds, all_disks, over_disks, own_disks};
 ghost use Rattle.fc_stopped.specs.Far.{status_unwritten};
-ghost use Rattle.fc_stopped.specs.Stopped.{StopEnds, first_told};
+ghost use Rattle.fc_stopped.specs.Lines.{HasLanes};
+ghost use Rattle.fc_stopped.specs.Stopped.{ComeBack, IsState, StopEnds};
 ghost use Rattle.fc_stopped.specs.Text.{far_text};
 
 use crate::far::{Far, far_of, put_far};
@@ -33,11 +39,12 @@ use fc_marks::NotedStop;
 use fc_mdisk::mdisk::Mdisk;
 use fc_metadisk::StopMeta;
 use fc_noted::{Noted, first_store};
-use fc_recovery_text::{Unwritten, put_first_state, put_state};
 use fc_recovered::LaneDisks;
+use fc_recovery_text::{Unwritten, put_first_state, put_state};
 use fc_run::form::Form;
 use fc_run::session::run_session;
 use std::alloc::Global;
+use std::collections::VecDeque;
 use std::mem;
 
 /// How many bytes the disk of metadata has.
@@ -62,23 +69,34 @@ fn add_main(alloc: Global, history: &mut History) -> Result<(), NoMemory>
     }
 }
 
+/// Gives the disks of a lane back, into room that was taken for them.
+fn give_lane<D: Mdisk>(lane: LaneDisks<D>, disks: &mut Vec<D>)
+    requires room { vec_len disks.old + length lane ≤ vec_capacity disks.old }
+    ensures given { map D.meaning disks.new.items ≡ map D.meaning disks.old.items ++ own_disks lane }
+    ensures room { vec_capacity disks.old ≤ vec_capacity disks.new }
+{
+    let mut left = VecDeque::from(lane.into_vec());
+    while let Some(named) = left.pop_front() {
+        let _room_is_there = disks.push(named.into_disk());
+    }
+}
+
 /// Gives disks back, into room that was taken for them.
 fn give_back<D: Mdisk>(lanes: Vec<LaneDisks<D>>, disks: &mut Vec<D>)
     requires none { disks.old.items ≡ [] }
     requires room { length (all_disks lanes.items) ≤ vec_capacity disks.old }
     ensures { map D.meaning disks.new.items ≡ all_disks lanes.items }
 {
-    for lane in lanes {
-        for named in lane.into_vec() {
-            let _room_is_there = disks.push(named.into_disk());
-        }
+    let mut left = VecDeque::from(lanes);
+    while let Some(lane) = left.pop_front() {
+        give_lane(lane, disks);
     }
 }
 
 /// Puts the text of a history, and sends on what waits.
 fn put_text_alone<K: Sink>(history: &History, sink: &mut K) -> Result<(), Failed>
     requires { HasNames history.now }
-    ensures { TextPut (history_text history.now) (K.meaning sink.old) (is_err result) (K.meaning sink.new) }
+    ensures { IsWritten (K.meaning sink.old) (history_text history.now) (is_err result) (K.meaning sink.new) }
 {
     put_history(history, sink)?;
     sink.flush()
@@ -130,7 +148,7 @@ fn end_at<D: Mdisk, K: Sink>(
     requires good { IsFoundGood (recovered (found_after meta)) }
     requires can { (image : Said) → recovered (found_after meta) ≡ FoundImage image → CanRecover GrainSize.K64 image lanes.items }
     ensures kinds { KeepKinds lanes.items result.0.items }
-    ensures put { StatePut (history_text history.now ++ far_text far) (λ text. IsStateText GrainSize.K64 (recovered (found_after meta)) lanes.items text result.0.items) result.1 (K.meaning sink.old) (K.meaning sink.new) }
+    ensures put { StatePut (history_text history.now ++ far_text far) (λ text. (last : List (List NamedDisk)) × IsStateText GrainSize.K64 (recovered (found_after meta)) lanes.items text last) result.1 (K.meaning sink.old) (K.meaning sink.new) }
 {
     match put_text_and_far(history, far, sink) {
         Ok(()) => {
@@ -138,6 +156,33 @@ fn end_at<D: Mdisk, K: Sink>(
             (lanes, status_of(written, sink))
         }
         Err(Failed) => (lanes, Status::WriteFault),
+    }
+}
+
+/// The same, of a noted store, whose disks come back.
+fn end_far<D: Mdisk, K: Sink>(
+    alloc: Global,
+    far: Far,
+    noted: Noted<D, StopMeta>,
+    sink: &mut K,
+    disks: &mut Vec<D>,
+    history: &History,
+) -> Status
+    requires named { HasNames history.now }
+    requires left { (last : Whole) × Leaves GrainSize.K64 StopLeaves noted last }
+    requires lanes { (old : List DiskState) × HasLanes (over_disks old) noted.store.lanes × (length old ≤ vec_capacity disks.old) }
+    requires none { disks.old.items ≡ [] }
+    ensures put { (last : Whole) → Leaves GrainSize.K64 StopLeaves noted last →
+        StatePut (history_text history.now ++ far_text far) (IsState last history.now) result (K.meaning sink.old) (K.meaning sink.new) }
+    ensures disks { (old : List DiskState) → HasLanes (over_disks old) noted.store.lanes → ComeBack result old (map D.meaning disks.new.items) }
+{
+    match noted.into_disks() {
+        Ok((lanes, meta)) => {
+            let (lanes, status) = end_at(alloc, far, meta, lanes, sink, history);
+            give_back(lanes, disks);
+            status
+        }
+        Err((_, NoMemory)) => Status::NoMemory,
     }
 }
 
@@ -150,6 +195,25 @@ fn end_with<K: Sink>(status: Status, sink: &mut K, history: &History) -> Status
         Ok(()) => status,
         Err(Failed) => Status::WriteFault,
     }
+}
+
+/// The same, of a noted store, whose disks come back as they are.
+fn end_short<D: Mdisk, K: Sink>(
+    status: Status,
+    noted: Noted<D, StopMeta>,
+    sink: &mut K,
+    disks: &mut Vec<D>,
+    history: &History,
+) -> Status
+    requires named { HasNames history.now }
+    requires lanes { (old : List DiskState) × HasLanes (over_disks old) noted.store.lanes × (length old ≤ vec_capacity disks.old) }
+    requires none { disks.old.items ≡ [] }
+    ensures text { TextEnds (history_text history.now) status result (K.meaning sink.old) (K.meaning sink.new) }
+    ensures disks { (old : List DiskState) → HasLanes (over_disks old) noted.store.lanes → pool_of (map D.meaning disks.new.items) ≡ pool_of old }
+{
+    let (store, _) = noted.into_store();
+    store.give_disks(disks);
+    end_with(status, sink, history)
 }
 
 /// Ends a call of which the first image wasn't written: there is no entry.
@@ -189,10 +253,9 @@ fn run_noted<D: Mdisk, S: Source, K: Sink>(
     history: &mut History,
 ) -> Status
     requires begun { history.old ≡ NoHistory }
-    requires stands { (old : List DiskState) × IsOpened call noted (first_told old) old }
+    requires stands { (old : List DiskState) × IsOpened noted old × (length old ≤ vec_capacity disks.old) }
     requires none { disks.old.items ≡ [] }
-    requires room { (old : List DiskState) → IsOpened call noted (first_told old) old → length old ≤ vec_capacity disks.old }
-    ensures ends { (old : List DiskState) → IsOpened call noted (first_told old) old → StopEnds call
+    ensures ends { (old : List DiskState) → IsOpened noted old → StopEnds call
         (record {
           status = result;
           source = S.meaning source.old;
@@ -220,16 +283,10 @@ fn run_noted<D: Mdisk, S: Source, K: Sink>(
         history,
     );
     let NotedLines { noted, stop, .. } = lines;
-    let (lanes, meta) = match noted.into_disks() {
-        Ok(back) => back,
-        Err((_, NoMemory)) => return Status::NoMemory,
-    };
-    let (lanes, status) = match far_of(ended, stop, call) {
-        Ok(far) => end_at(alloc, far, meta, lanes, sink, history),
-        Err(status) => (lanes, end_with(status, sink, history)),
-    };
-    give_back(lanes, disks);
-    status
+    match far_of(ended, stop, call) {
+        Ok(far) => end_far(alloc, far, noted, sink, disks, history),
+        Err(status) => end_short(status, noted, sink, disks, history),
+    }
 }
 
 /// As `run_until`, over any disk of metadata that stops at this call.

@@ -1,0 +1,166 @@
+-- One line more: the noted store goes on to answer lines, or leaves what is told of the first entries; and the history only grows.
+use Rattle.std.proofs.Common.{◌≡◌, ℕ, ◌≤◌, List, [], ◌∷◌, ◌++◌, codes, length, map, sym, ◌∙◌, ap, subst, Option, Some, None, Result, Ok, Err, OnOk, IfErr, true}
+use Rattle.std.proofs.lemmas.List.{map-append}
+use Rattle.fc_agenda.proofs.Going.{GoesSome-asking, GoesSome-whole}
+use Rattle.fc_agenda.specs.Goes.{GoesAsking, GoesSome, GoesToEnd}
+use Rattle.fc_base.specs.declared.command.Line.{Line}
+use Rattle.fc_base.specs.declared.fault.WordFault.{WordFault}
+use Rattle.fc_base.specs.declared.size.GrainSize.{GrainSize}
+use Rattle.fc_blocks.specs.Segments.{Segment, single}
+use Rattle.fc_changed.specs.Row.{Row}
+use Rattle.fc_entry.specs.HistoryState.{HistoryState}
+use Rattle.fc_entry.specs.Text.{HasNames}
+use Rattle.fc_entry.specs.declared.entry.Entry.{Entry}
+use Rattle.fc_legal.proofs.Appending.{IsLegal-run, IsPartialRun-append, IsPartialRun-more, IsRun-append, WantsMore-append}
+use Rattle.fc_legal.proofs.Naming.{HasMore}
+use Rattle.fc_legal.specs.Added.{Adds, IsOf}
+use Rattle.fc_legal.specs.Agenda.{Reading, Session, session_rules}
+use Rattle.fc_legal.specs.Run.{IsPartialRun, IsRun, WantsMore}
+use Rattle.fc_legal.specs.Whole.{Whole}
+use Rattle.fc_marks.specs.declared.error.NotedStop.{NotedStop}
+use Rattle.fc_marks.specs.declared.error.NotedStop.TheVariants.{LogFull, MetaFailed, MetaFull, NoMemory}
+use Rattle.fc_noted.specs.Making.{KeepLanes}
+use Rattle.fc_noted.specs.Noted.{IsNotedAt}
+use Rattle.fc_noted.specs.Stopping.{Leaves, LineHalts}
+use Rattle.fc_noted.specs.declared.noted.Noted.{Noted}
+use Rattle.fc_owner.proofs.LineAnswers.{AddsSome, history_grows, names_stay}
+use Rattle.fc_owner.proofs.Names.{legal_names}
+use Rattle.fc_owner.specs.FirstTold.{first_told}
+use Rattle.fc_owner.specs.StoreRuns.{Start}
+use Rattle.fc_run.specs.Runs.{GrowsTo, LineLeaves}
+use Rattle.fc_stopped.proofs.Lanes.{lanes_kept}
+use Rattle.fc_stopped.proofs.Left.{answered_left}
+use Rattle.fc_stopped.specs.Lines.{HasAnswered, HasLeft, LineIsAnswered, RunsLines, RunsSome, RunsAsking, noted_runs, stop_told}
+use Rattle.fc_stopped.specs.Reading.{stop_reading}
+
+more_lines : (lines : List (List ℕ)) (line : List ℕ) → map single lines ++ single line ∷ [] ≡ map single (lines ++ line ∷ [])
+more_lines lines line = sym (map-append single lines (line ∷ []))
+
+module _ {C D : Type 0} (seen : D → List ℕ) (may_leave : D → List ℕ → Type 0) where
+  -- A line that was read is answered, or its fault is.
+  pub line_is_answered : (read : Result Line WordFault) (result : Result (Unit {0}) NotedStop) (n now : Noted C D) (before after : HistoryState) →
+      OnOk result ((by : Reading) (bytes : List ℕ) (w : Whole) (least : List Row) → by w.books bytes ≡ read → IsNotedAt seen may_leave n before w least →
+      (next : Whole) × (least_next : List Row) × IsNotedAt seen may_leave now after next least_next
+      × Adds before after (λ more. GoesToEnd (session_rules n.store.control.grain by) (Session (single bytes ∷ [])) w more next)) →
+      IfErr result (λ stop. (by : Reading) (bytes : List ℕ) (w : Whole) (least : List Row) → by w.books bytes ≡ read → IsNotedAt seen may_leave n before w least →
+      LineHalts may_leave by stop n now bytes w before after) →
+      OnOk result (now.store.control.grain ≡ n.store.control.grain) → OnOk result (now.live ≡ true) →
+      (bytes : List ℕ) (w : Whole) (least : List Row) → stop_reading w.books bytes ≡ read → IsNotedAt seen may_leave n before w least → LineIsAnswered seen may_leave result n now bytes w before after
+  line_is_answered read (Ok done) n now before after answered halted grain live bytes w least is at = (live, grain, answered stop_reading bytes w least is at)
+  line_is_answered read (Err stop) n now before after answered halted grain live bytes w least is at = halted stop_reading bytes w least is at
+
+  -- ---- one line behind others
+
+  module _ (start : Start) (n now : Noted C D) (stop : Option NotedStop) (lines : List (List ℕ)) (line : List ℕ) (old new : HistoryState)
+      (a : HasAnswered seen may_leave n stop start lines old) (keep : KeepLanes n.store now.store) where
+    abbrev w : Whole
+    w = first_told start.disks
+
+    pub line_answered : (also : Option NotedStop) → also ≡ None → LineIsAnswered seen may_leave (Ok tt) n now line a.last old new → HasAnswered seen may_leave now also start (lines ++ line ∷ []) new
+    line_answered also none r =
+        let adds = r.2.3 in
+        let next : Whole = r.2.0 in
+        let are : IsRun start.grain stop_reading a.last (single line ∷ []) adds.more next =
+        subst (λ (g : GrainSize). GoesToEnd (session_rules g stop_reading) (Session (single line ∷ [])) a.last adds.more next) a.grain adds.are in
+        let all = IsRun-append start.grain stop_reading w a.last next (map single lines) (single line ∷ []) old.entries adds.more a.run are in
+        record {
+          on = none;
+          live = r.0;
+          grain = r.1 ∙ a.grain;
+          lanes = lanes_kept start n.store now.store keep a.lanes;
+          last = next;
+          least = r.2.1;
+          at = r.2.2;
+          run = subst (λ (es : List Entry). IsRun start.grain stop_reading w (map single (lines ++ line ∷ [])) es next) (sym adds.entries)
+              (subst (λ (segs : List Segment). IsRun start.grain stop_reading w segs (old.entries ++ adds.more) next) (more_lines lines line) all);
+        }
+
+    left_asking : (next : Whole) → IsOf next new → Leaves n.store.control.grain may_leave now next →
+        Adds old new (λ more. GoesAsking (session_rules n.store.control.grain stop_reading) (Session (single line ∷ [])) a.last more next) →
+        HasLeft seen may_leave now start new (RunsAsking start (lines ++ line ∷ []) new)
+    left_asking next told leaves adds =
+        let are : WantsMore start.grain stop_reading a.last (single line ∷ []) adds.more next =
+        subst (λ (g : GrainSize). GoesAsking (session_rules g stop_reading) (Session (single line ∷ [])) a.last adds.more next) a.grain adds.are in
+        let all = WantsMore-append start.grain stop_reading w a.last next (map single lines) (single line ∷ []) old.entries adds.more a.run are in
+        record {
+          lanes = lanes_kept start n.store now.store keep a.lanes;
+          last = next;
+          told = told;
+          leaves = subst (λ (g : GrainSize). Leaves g may_leave now next) a.grain leaves;
+          holds = subst (λ (es : List Entry). WantsMore start.grain stop_reading w (map single (lines ++ line ∷ [])) es next) (sym adds.entries)
+              (subst (λ (segs : List Segment). WantsMore start.grain stop_reading w segs (old.entries ++ adds.more) next) (more_lines lines line) all);
+        }
+
+    left_some : (next : Whole) → IsOf next new → Leaves n.store.control.grain may_leave now next →
+        Adds old new (λ more. GoesSome (session_rules n.store.control.grain stop_reading) (Session (single line ∷ [])) a.last more next) →
+        HasLeft seen may_leave now start new (RunsSome start (lines ++ line ∷ []) new)
+    left_some next told leaves adds =
+        let are : IsPartialRun start.grain stop_reading a.last (single line ∷ []) adds.more next =
+        subst (λ (g : GrainSize). GoesSome (session_rules g stop_reading) (Session (single line ∷ [])) a.last adds.more next) a.grain adds.are in
+        let all = IsPartialRun-append start.grain stop_reading w a.last next (map single lines) (single line ∷ []) old.entries adds.more a.run are in
+        record {
+          lanes = lanes_kept start n.store now.store keep a.lanes;
+          last = next;
+          told = told;
+          leaves = subst (λ (g : GrainSize). Leaves g may_leave now next) a.grain leaves;
+          holds = subst (λ (es : List Entry). IsPartialRun start.grain stop_reading w (map single (lines ++ line ∷ [])) es next) (sym adds.entries)
+              (subst (λ (segs : List Segment). IsPartialRun start.grain stop_reading w segs (old.entries ++ adds.more) next) (more_lines lines line) all);
+        }
+
+    -- A line that isn't answered to its end leaves the first of it.
+    pub line_halted : (halt : NotedStop) (also : Option NotedStop) → LineHalts may_leave stop_reading halt n now line a.last old new →
+        LineLeaves {A = Unit {0}} (Err (stop_told halt)) (noted_runs seen may_leave now also start) (lines ++ line ∷ []) new
+    line_halted LogFull also h = (left_asking h.1.0 h.1.1 h.1.2 h.1.3, h.0)
+    line_halted NoMemory also h = left_some h.0 h.1 h.2 h.3
+    line_halted MetaFailed also h = left_some h.0 h.1 h.2 h.3
+    line_halted MetaFull also h = left_some h.0 h.1 h.2 h.3
+
+  -- Memory was wanted to read the line: nothing of it is answered.
+  pub line_starved : (start : Start) (n : Noted C D) (stop : Option NotedStop) (lines : List (List ℕ)) (line : List ℕ) (history : HistoryState) → HasAnswered seen may_leave n stop start lines history →
+      length history.entries ≤ 262144 → HasLeft seen may_leave n start history (RunsSome start (lines ++ line ∷ []) history)
+  line_starved start n stop lines line history a room =
+      let w : Whole = first_told start.disks in
+      let some = IsPartialRun-more start.grain stop_reading w a.last (map single lines) (single line ∷ []) history.entries
+      (GoesSome-whole (session_rules start.grain stop_reading) (Session (map single lines)) w a.last history.entries a.run) in
+      answered_left seen may_leave n stop start lines history a room (RunsSome start (lines ++ line ∷ []) history)
+      (subst (λ (segs : List Segment). IsPartialRun start.grain stop_reading w segs history.entries a.last) (more_lines lines line) some)
+
+  -- ---- the history only grows, and each entry's actor has a name
+
+  pub some_added : (result : Result (Unit {0}) NotedStop) (n now : Noted C D) (line : List ℕ) (w : Whole) (old new : HistoryState) → LineIsAnswered seen may_leave result n now line w old new →
+      AddsSome n.store.control.grain stop_reading (Session (single line ∷ [])) w old new
+  some_added (Ok done) n now line w old new r =
+      record {
+        last = r.2.0;
+        told = r.2.2.told.1;
+        adds = record {
+          more = r.2.3.more;
+          entries = r.2.3.entries;
+          are = GoesSome-whole (session_rules n.store.control.grain stop_reading) (Session (single line ∷ [])) w r.2.0 r.2.3.more r.2.3.are;
+        };
+      }
+  some_added (Err LogFull) n now line w old new h =
+      record {
+        last = h.1.0;
+        told = h.1.1;
+        adds = record {
+          more = h.1.3.more;
+          entries = h.1.3.entries;
+          are = GoesSome-asking (session_rules n.store.control.grain stop_reading) (Session (single line ∷ [])) w h.1.0 h.1.3.more h.1.3.are;
+        };
+      }
+  some_added (Err NoMemory) n now line w old new h = record { last = h.0; told = h.1; adds = h.3 }
+  some_added (Err MetaFailed) n now line w old new h = record { last = h.0; told = h.1; adds = h.3 }
+  some_added (Err MetaFull) n now line w old new h = record { last = h.0; told = h.1; adds = h.3 }
+
+  pub line_grows : (start : Start) (n : Noted C D) (stop : Option NotedStop) (lines : List (List ℕ)) (line : List ℕ) (old new : HistoryState) (a : HasAnswered seen may_leave n stop start lines old) →
+      AddsSome n.store.control.grain stop_reading (Session (single line ∷ [])) a.last old new → GrowsTo old new
+  line_grows start n stop lines line old new a some = history_grows n.store.control.grain stop_reading (Session (single line ∷ [])) a.last old new tt a.at.told.1 some
+
+  pub line_named : (start : Start) (n : Noted C D) (stop : Option NotedStop) (lines : List (List ℕ)) (line : List ℕ) (old new : HistoryState) (a : HasAnswered seen may_leave n stop start lines old) →
+      AddsSome n.store.control.grain stop_reading (Session (single line ∷ [])) a.last old new → HasNames old → HasNames new
+  line_named start n stop lines line old new a some =
+      let w : Whole = first_told start.disks in
+      let named : HasMore w.actors a.last.actors =
+      legal_names start.grain w a.last old.entries (IsLegal-run start.grain stop_reading w a.last (map single lines) old.entries a.run) in
+      names_stay n.store.control.grain stop_reading (Session (single line ∷ [])) a.last named.more old new tt a.at.told.1 (sym a.at.told.1.actors ∙ named.is) some

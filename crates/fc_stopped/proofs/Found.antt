@@ -1,0 +1,142 @@
+-- What is found after a stop: it may be read, and its text is that of what may be recovered.
+use Rattle.std.proofs.Common.{◌≡◌, ◌⊎◌, ℕ, ◌<◌, ◌%◌, ◌==◌, Bool, true, false, List, [], ◌∷◌, ◌++◌, inl, inr, length, replicate, refl, sym, ap, subst, ◌∙◌, Option, Some, None, if◌then◌else◌, find}
+use Rattle.std.proofs.lemmas.List.{append-nil, length-replicate}
+use Rattle.fc_base.specs.Pools.{Pool}
+use Rattle.fc_base.specs.declared.limits.TheConstants.{LANES}
+use Rattle.fc_base.specs.declared.request.Request.{Request}
+use Rattle.fc_base.specs.declared.size.GrainSize.TheVariants.{K64}
+use Rattle.fc_base.specs.declared.volume.Volume.{Volume}
+use Rattle.fc_changed.specs.Row.{Row}
+use Rattle.fc_entry.specs.HistoryState.{HistoryState}
+use Rattle.fc_format.specs.Halves.{Found, Image, NoImage, recovered}
+use Rattle.fc_held.specs.Held.{HoldAllOf}
+use Rattle.fc_image.specs.declared.image.MetaImage.{MetaImage}
+use Rattle.fc_kept.specs.Disks.{NamedDisk}
+use Rattle.fc_kept.specs.Images.{kept_in}
+use Rattle.fc_kept.specs.Kept.{Kept}
+use Rattle.fc_kept.specs.OneGrain.{Another}
+use Rattle.fc_kept.specs.Recoverable.{Recoverable, disks_at}
+use Rattle.fc_kept.specs.Sound.{IsSoundImage}
+use Rattle.fc_lanes.specs.Dealing.{pools_dealt}
+use Rattle.fc_legal.specs.Whole.{Whole, opened}
+use Rattle.fc_marks.specs.declared.error.NotedStop.{NotedStop}
+use Rattle.fc_marks.specs.declared.error.NotedStop.TheVariants.{LogFull}
+use Rattle.fc_mdisk.specs.Disk.{DiskState}
+use Rattle.fc_metadisk.specs.Stop.{StopLeaves, StopState, found_after}
+use Rattle.fc_noted.specs.Stopping.{Leaves, LeavesFirst}
+use Rattle.fc_noted.specs.declared.noted.Noted.{Noted}
+use Rattle.fc_owner.specs.FirstTold.{first_told}
+use Rattle.fc_recovered.specs.Readying.{readied}
+use Rattle.fc_recovered.specs.Recovered.{AreReadied, CanRecover}
+use Rattle.fc_recovered.specs.Showing.{lane_over}
+use Rattle.fc_recovery_text.specs.Recovering.{AreRead, AreRead.all, IsFirstText, IsFoundGood, IsImageText, IsStateText}
+use Rattle.fc_recovery_text.specs.Text.{lines_text, rows_in}
+use Rattle.law_crash.proofs.Whole.{crash_law_holds}
+use Rattle.law_crash.specs.Points.{Point, nothing_kept}
+use Rattle.fc_stopped.proofs.Lanes.{can_recover}
+use Rattle.fc_stopped.specs.Ending.{IsUnopened, over_disks}
+use Rattle.fc_stopped.specs.Lines.{HasLanes}
+use Rattle.fc_stopped.specs.Stopped.{IsState}
+
+-- ---- the disk of metadata
+
+either : (odd : Bool) (x y : List ℕ) → ((if odd then x else y) ≡ x) ⊎ ((if odd then x else y) ≡ y)
+either true x y = inl refl
+either false x y = inr refl
+
+-- What is found is what a crash leaves.
+pub found_leaves : (d : StopState) → StopLeaves d (found_after d)
+found_leaves d = either ((d.stop % 2) == 1) d.bytes d.synced
+
+same_image : (f : Found) (image other : MetaImage) → f ≡ Image image → f ≡ Image other → image ≡ other
+same_image f image other is also =
+    let same : Image image ≡ Image other = sym is ∙ also in
+    cc same
+
+-- ---- what may be recovered
+
+module _ {C : Type 0} (n : Noted C StopState) (last : Whole) (old : List DiskState) (leaves : Leaves K64 StopLeaves n last) where
+  pub found_good : IsFoundGood (recovered (found_after n.meta.disk))
+  found_good =
+      let l = leaves.found (found_after n.meta.disk) (found_leaves n.meta.disk) in
+      subst IsFoundGood (sym l.1) tt
+
+  pub found_can : (back : List (List NamedDisk)) (image : MetaImage) → HasLanes (over_disks old) n.store.lanes → HoldAllOf n.named n.store.lanes back → recovered (found_after n.meta.disk) ≡ Image image →
+      CanRecover K64 image back
+  found_can back image has hold is =
+      let l = leaves.found (found_after n.meta.disk) (found_leaves n.meta.disk) in
+      let r = l.3 back hold in
+      subst (λ (i : MetaImage). CanRecover K64 i back) (same_image (recovered (found_after n.meta.disk)) l.0 image l.1 is)
+      (can_recover (over_disks old) n.named n.store.lanes l.0 back last r.0 r.1 r.2 has hold l.2 r.3)
+
+  pub found_state : (history : HistoryState) (back behind : List (List NamedDisk)) (text : List ℕ) → HoldAllOf n.named n.store.lanes back →
+      IsStateText K64 (recovered (found_after n.meta.disk)) back text behind → IsState last history text
+  found_state history back behind text hold is =
+      let l = leaves.found (found_after n.meta.disk) (found_leaves n.meta.disk) in
+      let r = l.3 back hold in
+      IsState.first l.0 back text behind r.0 r.1 r.2 r.3 (subst (λ (f : Found). IsStateText K64 f back text behind) l.1 is)
+
+-- ---- before the first image stands
+
+without_volumes : (image : MetaImage) → kept_in image ≡ nothing_kept → image.volumes ≡ []
+without_volumes image is = ap (λ (k : Kept). k.tables.volumes) is
+
+pub unopened : (bytes : List ℕ) (stop : NotedStop) → (stop ≡ LogFull → ⊥) → LeavesFirst bytes → IsUnopened bytes stop
+unopened bytes stop not_full leaves = record { not_full = not_full; found = found leaves }
+  where
+    found : LeavesFirst bytes → (recovered bytes ≡ NoImage) ⊎ ((image : MetaImage) × (recovered bytes ≡ Image image) × IsSoundImage image × (image.volumes ≡ []))
+    found (inl none) = inl none
+    found (inr some) = inr (some.0, some.1, some.2, without_volumes some.0 some.3)
+
+pub unopened_good : (bytes : List ℕ) (stop : NotedStop) → IsUnopened bytes stop → IsFoundGood (recovered bytes)
+unopened_good bytes stop un = good un.found
+  where
+    good : (recovered bytes ≡ NoImage) ⊎ ((image : MetaImage) × (recovered bytes ≡ Image image) × IsSoundImage image × (image.volumes ≡ [])) → IsFoundGood (recovered bytes)
+    good (inl none) = subst IsFoundGood (sym none) tt
+    good (inr some) = subst IsFoundGood (sym some.1) tt
+
+pub unopened_bare : (bytes : List ℕ) (stop : NotedStop) → IsUnopened bytes stop → (image : MetaImage) → recovered bytes ≡ Image image → IsSoundImage image × (image.volumes ≡ [])
+unopened_bare bytes stop un image is = bare un.found
+  where
+    bare : (recovered bytes ≡ NoImage) ⊎ ((image : MetaImage) × (recovered bytes ≡ Image image) × IsSoundImage image × (image.volumes ≡ [])) → IsSoundImage image × (image.volumes ≡ [])
+    bare (inl none) =
+        let same : Image image ≡ NoImage = sym is ∙ none in
+        absurd (cc same)
+    bare (inr some) = subst (λ (i : MetaImage). IsSoundImage i × (i.volumes ≡ [])) (same_image (recovered bytes) some.0 image some.1 is) (some.2, some.3)
+
+-- no disks at all, lane by lane
+abbrev none_in : List NamedDisk
+none_in = []
+
+abbrev no_disks : List Pool → List (List NamedDisk)
+no_disks pools = replicate (length pools) none_in
+
+nothing_read : (image : MetaImage) (disks : List (List NamedDisk)) (text : List ℕ) → image.volumes ≡ [] → text ≡ lines_text (rows_in K64 image) → IsImageText K64 image disks text disks
+nothing_read image disks text none is =
+    record {
+      ready = disks;
+      are_ready = record {
+        count = refl;
+        each = λ i il. sym (ap (λ (vs : List Volume). readied (lane_over K64 disks i) vs (disks_at disks i)) none);
+      };
+      reads = [];
+      read = subst (λ (vs : List Volume). AreRead K64 image vs disks [] disks) (sym none) (all disks);
+      text_is = is ∙ sym (append-nil (lines_text (rows_in K64 image)));
+    }
+
+-- The text of no image, or of one that says nothing.
+pub first_state : (disks : List DiskState) (history : HistoryState) (bytes text : List ℕ) → history.entries ≡ [] → LeavesFirst bytes → IsFirstText K64 (recovered bytes) text → IsState (first_told disks) history text
+first_state disks history bytes text no_entry leaves first = state leaves
+  where
+    state : LeavesFirst bytes → IsState (first_told disks) history text
+    state (inl none) =
+        let is = subst (λ (f : Found). IsFirstText K64 f text) none first in
+        subst (λ (t : List ℕ). IsState (first_told disks) history t) (sym is) (IsState.none no_entry)
+    state (inr some) =
+        let lanes : List (List NamedDisk) = no_disks (pools_dealt LANES disks) in
+        let point : Point = record { kept = nothing_kept; disks = lanes } in
+        let here : Recoverable K64 lanes nothing_kept (first_told disks) [] None None =
+        crash_law_holds.rests K64 (first_told disks) [] None point (crash_law_holds.opens K64 (pools_dealt LANES disks) lanes (length-replicate (length (pools_dealt LANES disks)) none_in)) in
+        let is = subst (λ (f : Found). IsFirstText K64 f text) some.1 first in
+        IsState.first some.0 lanes text lanes [] None None (subst (λ (k : Kept). Recoverable K64 lanes k (first_told disks) [] None None) (sym some.3) here)
+        (nothing_read some.0 lanes text (without_volumes some.0 some.3) is)

@@ -1,0 +1,13 @@
+-- Lemmas, one subject a file.
+pub mod Lanes
+pub mod Left
+pub mod Reading
+pub mod Answering
+pub mod Sessions
+pub mod Putting
+pub mod Found
+pub mod Starved
+pub mod Ends
+pub mod Giving
+pub mod Opening
+pub mod Stops

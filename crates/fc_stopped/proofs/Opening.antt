@@ -1,0 +1,132 @@
+-- A call before its first line: the noted store that it opens, or the first image that isn't written.
+use Rattle.std.proofs.Common.{◌≡◌, ◌⊎◌, ℕ, ◌<◌, ◌≤◌, ◌^◌, true, List, [], ◌∷◌, ◌++◌, All, inl, inr, length, replicate, refl, sym, ap, subst, ◌∙◌, arith, Option, Some, None}
+use Rattle.std.proofs.lemmas.List.{length-replicate}
+use Rattle.fc_base.specs.declared.limits.TheConstants.{LANES}
+use Rattle.fc_base.specs.declared.size.GrainSize.{GrainSize}
+use Rattle.fc_base.specs.declared.size.GrainSize.TheVariants.{K64}
+use Rattle.fc_call.specs.Call.{Call}
+use Rattle.fc_call.specs.declared.status.Status.TheVariants as status
+use Rattle.fc_entry.specs.HistoryState.{HistoryState}
+use Rattle.fc_entry.specs.Text.{history_text}
+use Rattle.fc_entry.specs.declared.entry.Entry.{Entry}
+use Rattle.fc_format.specs.Halves.{recovered}
+use Rattle.fc_grains.specs.Grains.{pool_of}
+use Rattle.fc_lanes.specs.Dealing.{Begin, all_dealt, pools_dealt}
+use Rattle.fc_legal.proofs.Appending.{IsRun-nil}
+use Rattle.fc_legal.specs.Run.{IsRun}
+use Rattle.fc_legal.specs.Whole.{opened}
+use Rattle.fc_marks.specs.declared.error.NotedStop.{NotedStop}
+use Rattle.fc_marks.specs.declared.error.NotedStop.TheVariants.{LogFull, MetaFailed, MetaFull, NoMemory}
+use Rattle.fc_mdisk.specs.Disk.{DiskState, IsFresh}
+use Rattle.fc_metadisk.specs.Disk.{Only}
+use Rattle.fc_metadisk.specs.Stop.{StopLeaves, StopState, new_stop}
+use Rattle.fc_noted.specs.Noted.{BeginsOver, IsNotedAt, NoHistory}
+use Rattle.fc_noted.specs.Stopping.{LeavesFirst}
+use Rattle.fc_noted.specs.declared.noted.Noted.{Noted}
+use Rattle.fc_owner.proofs.SessionOver.{gave_nothing}
+use Rattle.fc_owner.specs.FirstTold.{first_told}
+use Rattle.fc_owner.specs.StoreRuns.{Start}
+use Rattle.fc_recovery_text.specs.Recovering.{IsFirstText}
+use Rattle.fc_stands.specs.Store.{StandsFor, StoreView}
+use Rattle.fc_stopped.proofs.Ends.{all_back, far_ends}
+use Rattle.fc_stopped.proofs.Found.{first_state}
+use Rattle.fc_stopped.proofs.Lanes.{lanes_begin}
+use Rattle.fc_stopped.proofs.Putting.{put_as}
+use Rattle.fc_stopped.proofs.Sessions.{CameFar}
+use Rattle.fc_stopped.proofs.Starved.{main_told, no_entries, no_lines, starved_named}
+use Rattle.fc_stopped.specs.Ending.{EndsUnopened, IsOpened, StatePut, over_disks}
+use Rattle.fc_stopped.specs.Lines.{HasAnswered, HasLanes}
+use Rattle.fc_stopped.specs.Reading.{stop_reading}
+use Rattle.fc_stopped.specs.Stopped.{IsState, StopEnds}
+use Rattle.fc_stopped.specs.Text.{far_text}
+use Rattle.fc_stopped.specs.declared.far.Far.{Far}
+use Rattle.fc_stopped.specs.declared.far.Far.TheVariants.{ToCall, ToFull}
+
+-- ---- the store
+
+pub begins_over : (count : ℕ) (disks : List DiskState) (s : StoreView) → length disks ≡ count → count < 2 ^ 30 → All IsFresh disks → StandsFor s (first_told disks) → s.control.grain ≡ K64 →
+    Begin K64 LANES (all_dealt LANES disks) s.lanes → BeginsOver count disks s
+begins_over count disks s counted few fresh stands grain begin =
+    record {
+      counted = counted;
+      few = few;
+      fresh = fresh;
+      stands = stands;
+      begin = subst (λ (g : GrainSize). Begin g LANES (all_dealt LANES disks) s.lanes) (sym grain) begin;
+    }
+
+pub begin_lanes : (count : ℕ) (disks : List DiskState) (s : StoreView) → s.control.grain ≡ K64 → BeginsOver count disks s → HasLanes (over_disks disks) s.lanes
+begin_lanes count disks s grain begins =
+    subst (λ (g : GrainSize). HasLanes (record { grain = g; disks = disks }) s.lanes) grain (lanes_begin disks s begins.stands begins.begin)
+
+pub is_opened : {C : Type 0} (count : ℕ) (disks : List DiskState) (s : StoreView) (n : Noted C StopState) → s.control.grain ≡ K64 → BeginsOver count disks s → n.store ≡ s → n.live ≡ true →
+    IsNotedAt (λ (d : StopState). d.bytes) StopLeaves n NoHistory (first_told disks) [] → IsOpened n disks
+is_opened count disks s n grain begins same live at =
+    record {
+      live = live;
+      grain = ap (λ (x : StoreView). x.control.grain) same ∙ grain;
+      lanes = subst (λ (x : StoreView). HasLanes (over_disks disks) x.lanes) (sym same) (begin_lanes count disks s grain begins);
+      at = at;
+    }
+
+-- ---- a disk of zeros
+
+pub zeros_at_first : (size stop : ℕ) (d : StopState) → d ≡ new_stop size stop → d.bytes ≡ replicate (length d.bytes) 0
+zeros_at_first size stop d is =
+    subst (λ (x : StopState). x.bytes ≡ replicate (length x.bytes) 0) (sym is) (ap (λ (n : ℕ). replicate n 0) (sym (length-replicate size 0)))
+
+pub synced_at_first : (size stop : ℕ) (d : StopState) → d ≡ new_stop size stop → Only d.bytes (StopLeaves d)
+synced_at_first size stop d is = subst (λ (x : StopState). Only x.bytes (StopLeaves x)) (sym is) only
+  where
+    only : Only (new_stop size stop).bytes (StopLeaves (new_stop size stop))
+    only c (inl same) = same
+    only c (inr same) = same
+
+-- ---- no line is answered yet
+
+pub opened_answers : {C : Type 0} (n : Noted C StopState) (old : List DiskState) (history : HistoryState) → history ≡ NoHistory → IsOpened n old →
+    HasAnswered (λ (d : StopState). d.bytes) StopLeaves n None (over_disks old) [] history
+opened_answers n old history main opened =
+    record {
+      on = refl;
+      live = opened.live;
+      grain = opened.grain;
+      lanes = opened.lanes;
+      last = first_told old;
+      least = [];
+      at = subst (λ (h : HistoryState). IsNotedAt (λ (d : StopState). d.bytes) StopLeaves n h (first_told old) []) (sym main) opened.at;
+      run = subst (λ (h : HistoryState). IsRun K64 stop_reading (first_told old) [] h.entries (first_told old)) (sym main) (IsRun-nil K64 stop_reading (first_told old));
+    }
+
+-- ---- the first image isn't written
+
+unopened_put : (number : ℕ) (far : Far) (call : Call) (bytes : List ℕ) → call.history ≡ NoHistory → call.source' ≡ call.source → LeavesFirst bytes → CameFar number far call [] (first_told call.disks) →
+    StatePut (far_text far) (IsFirstText K64 (recovered bytes)) call.status call.sink call.sink' → pool_of call.disks' ≡ pool_of call.disks → StopEnds number call
+unopened_put number far call bytes main source leaves came put back =
+    let w = first_told call.disks in
+    let none : call.history.entries ≡ [] = ap (λ (h : HistoryState). h.entries) main in
+    let known : far_text far ≡ history_text call.history ++ far_text far = ap (λ (h : HistoryState). history_text h ++ far_text far) (sym main) in
+    let state : StatePut (far_text far) (IsState w call.history) call.status call.sink call.sink' =
+    put_as (far_text far) (IsFirstText K64 (recovered bytes)) (IsState (first_told call.disks) call.history) call.status call.sink call.sink'
+    (λ text is. first_state call.disks call.history bytes text none leaves is) put in
+    record {
+      last = w;
+      legal = no_entries call none;
+      named = inl (main_told call.disks call.history main);
+      bytes = [];
+      gave = gave_nothing call.source call.source' source;
+      ends = far_ends number far call.status call [] w came record { few = omega arith; taken = no_lines call none }
+          (subst (λ (t : List ℕ). StatePut t (IsState (first_told call.disks) call.history) call.status call.sink call.sink') known state);
+      disks = all_back call.status call.disks call.disks' back;
+    }
+
+pub unopened_ends : (number : ℕ) (stop : NotedStop) (call : Call) (bytes : List ℕ) → call.history ≡ NoHistory → call.source' ≡ call.source → LeavesFirst bytes →
+    EndsUnopened number (recovered bytes) stop call.status call.sink call.sink' → pool_of call.disks' ≡ pool_of call.disks → StopEnds number call
+unopened_ends number LogFull call bytes main source leaves ends back = absurd ends
+unopened_ends number NoMemory call bytes main source leaves ends back = starved_named number call ends.0 source ends.1 main
+unopened_ends number MetaFailed call bytes main source leaves ends back =
+    unopened_put number (ToCall number) call bytes main source leaves
+    record { few = omega arith; asked = refl; lines = no_lines call (ap (λ (h : HistoryState). h.entries) main) } ends back
+unopened_ends number MetaFull call bytes main source leaves ends back =
+    unopened_put number ToFull call bytes main source leaves
+    record { few = omega arith; asked = tt; lines = no_lines call (ap (λ (h : HistoryState). h.entries) main) } ends back

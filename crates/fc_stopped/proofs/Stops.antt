@@ -1,0 +1,66 @@
+-- A call that ran a session over a noted store.
+use Rattle.std.proofs.Common.{◌≡◌, ◌⊎◌, ℕ, ◌<◌, ◌≤◌, ◌^◌, ◌++◌, List, inl, inr, length, sym, subst, arith, Option, Ok, Err}
+use Rattle.fc_base.specs.Count.{HasRisen}
+use Rattle.fc_call.specs.Call.{Call}
+use Rattle.fc_call.specs.declared.status.Status.{Status}
+use Rattle.fc_entry.specs.Text.{history_text}
+use Rattle.fc_legal.specs.Added.{IsOf}
+use Rattle.fc_legal.specs.Whole.{Whole}
+use Rattle.fc_marks.specs.declared.error.NotedStop.{NotedStop}
+use Rattle.fc_mdisk.specs.Disk.{DiskState}
+use Rattle.fc_metadisk.specs.Stop.{StopLeaves, StopState}
+use Rattle.fc_noted.specs.declared.noted.Noted.{Noted}
+use Rattle.fc_run.specs.Headline.{Session, SessionEnds}
+use Rattle.fc_run.specs.Input.{Gave}
+use Rattle.fc_run.specs.declared.ended.Ended.{Ended}
+use Rattle.fc_stopped.proofs.Ends.{far_ends, short_ends}
+use Rattle.fc_stopped.proofs.Sessions.{CallTo, ComesTo, TakesSome, came_far, is_legal, session_left, takes_some}
+use Rattle.fc_stopped.specs.Ending.{StatePut, TextEnds, over_disks}
+use Rattle.fc_stopped.specs.Far.{far_of}
+use Rattle.fc_stopped.specs.Lines.{HasLeft, noted_runs}
+use Rattle.fc_stopped.specs.Stopped.{ComeBack, IsState, StopEnds}
+use Rattle.fc_stopped.specs.Text.{far_text}
+use Rattle.fc_stopped.specs.declared.far.Far.{Far}
+
+-- the sink of such a session counts no fault
+no_fault : (old new : ℕ) → new ≡ 0 → HasRisen old new → ⊥
+no_fault old new none (inl rose) = omega (arith, none, rose)
+no_fault old new none (inr last) = omega (arith, none, last)
+
+pub noted_left : {C : Type 0} (n : Noted C StopState) (stop : Option NotedStop) (old : List DiskState) {s : Session} → s.sink'.faults ≡ 0 → length s.history.entries ≤ 262144 →
+    (ends : SessionEnds s (noted_runs (λ (d : StopState). d.bytes) StopLeaves n stop (over_disks old))) →
+    HasLeft (λ (d : StopState). d.bytes) StopLeaves n (over_disks old) s.history (ComesTo s.ended (over_disks old) s.source s.source' s.history ends.bytes)
+noted_left n stop old {s = s} none room ends =
+    session_left (λ (d : StopState). d.bytes) StopLeaves n stop (over_disks old) s ends.bytes room s.ended (no_fault s.sink.faults s.sink'.faults none) ends.ends
+
+module _ (number : ℕ) (call : Call) (e : Ended) (stop : Option NotedStop) (bytes : List ℕ) (last : Whole) (told : IsOf last call.history) (gave : Gave call.source bytes call.source') (to : CallTo e call bytes last) where
+  some : TakesSome (over_disks call.disks) call.source' call.history bytes last
+  some = takes_some e (over_disks call.disks) call.source call.source' call.history bytes last to
+
+  -- It came so far, and what is recovered is written.
+  pub stop_far : (far : Far) → far_of number e stop ≡ Ok far → StatePut (history_text call.history ++ far_text far) (IsState last call.history) call.status call.sink call.sink' →
+      ComeBack call.status call.disks call.disks' → StopEnds number call
+  stop_far far is put back =
+      record {
+        last = last;
+        legal = is_legal (over_disks call.disks) call.source' call.history bytes last some;
+        named = inl told;
+        bytes = bytes;
+        gave = gave;
+        ends = far_ends number far call.status call bytes last (came_far number e stop far call bytes last is to) some put;
+        disks = back;
+      }
+
+  -- It ended with this status.
+  pub stop_short : (asked : Status) → far_of number e stop ≡ Err asked → TextEnds (history_text call.history) asked call.status call.sink call.sink' → ComeBack call.status call.disks call.disks' →
+      StopEnds number call
+  stop_short asked is text back =
+      record {
+        last = last;
+        legal = is_legal (over_disks call.disks) call.source' call.history bytes last some;
+        named = inl told;
+        bytes = bytes;
+        gave = gave;
+        ends = short_ends number call bytes last e stop asked call.status is to some text;
+        disks = back;
+      }
