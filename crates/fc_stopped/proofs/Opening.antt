@@ -44,15 +44,17 @@ use Rattle.fc_stopped.specs.declared.far.Far.TheVariants.{ToCall, ToFull}
 
 -- ---- the store
 
-pub begins_over : (count : ℕ) (disks : List DiskState) (s : StoreView) → length disks ≡ count → count < 2 ^ 30 → All IsFresh disks → StandsFor s (first_told disks) → s.control.grain ≡ K64 →
-    Begin K64 LANES (all_dealt LANES disks) s.lanes → BeginsOver count disks s
-begins_over count disks s counted few fresh stands grain begin =
+-- It was made over the disks that were taken.
+pub begins_over : (count : ℕ) (disks taken : List DiskState) (s : StoreView) → taken ≡ disks → length disks ≡ count → count < 2 ^ 30 → All IsFresh disks → StandsFor s (first_told taken) → s.control.grain ≡ K64 →
+    Begin K64 LANES (all_dealt LANES taken) s.lanes → BeginsOver count disks s
+begins_over count disks taken s same counted few fresh stands grain begin =
     record {
       counted = counted;
       few = few;
       fresh = fresh;
-      stands = stands;
-      begin = subst (λ (g : GrainSize). Begin g LANES (all_dealt LANES disks) s.lanes) (sym grain) begin;
+      stands = subst (λ (ds : List DiskState). StandsFor s (first_told ds)) same stands;
+      begin = subst (λ (g : GrainSize). Begin g LANES (all_dealt LANES disks) s.lanes) (sym grain)
+          (subst (λ (ds : List DiskState). Begin K64 LANES (all_dealt LANES ds) s.lanes) same begin);
     }
 
 pub begin_lanes : (count : ℕ) (disks : List DiskState) (s : StoreView) → s.control.grain ≡ K64 → BeginsOver count disks s → HasLanes (over_disks disks) s.lanes
