@@ -1,17 +1,15 @@
 -- A call before its first line: the noted store that it opens, or the first image that isn't written.
-use Rattle.std.proofs.Common.{◌≡◌, ◌⊎◌, ℕ, ◌<◌, ◌≤◌, ◌^◌, true, List, [], ◌∷◌, ◌++◌, All, inl, inr, length, replicate, refl, sym, ap, subst, ◌∙◌, arith, Option, Some, None}
+use Rattle.std.proofs.Common.{◌≡◌, ℕ, ◌<◌, ◌^◌, true, List, [], ◌++◌, All, inl, inr, length, replicate, refl, sym, ap, subst, ◌∙◌, arith, None}
 use Rattle.std.proofs.lemmas.List.{length-replicate}
 use Rattle.fc_base.specs.declared.limits.TheConstants.{LANES}
 use Rattle.fc_base.specs.declared.size.GrainSize.{GrainSize}
 use Rattle.fc_base.specs.declared.size.GrainSize.TheVariants.{K64}
 use Rattle.fc_call.specs.Call.{Call}
-use Rattle.fc_call.specs.declared.status.Status.TheVariants as status
 use Rattle.fc_entry.specs.HistoryState.{HistoryState}
 use Rattle.fc_entry.specs.Text.{history_text}
-use Rattle.fc_entry.specs.declared.entry.Entry.{Entry}
 use Rattle.fc_format.specs.Halves.{recovered}
 use Rattle.fc_grains.specs.Grains.{pool_of}
-use Rattle.fc_lanes.specs.Dealing.{Begin, all_dealt, pools_dealt}
+use Rattle.fc_lanes.specs.Dealing.{Begin, all_dealt}
 use Rattle.fc_legal.proofs.Appending.{IsRun-nil}
 use Rattle.fc_legal.specs.Run.{IsRun}
 use Rattle.fc_legal.specs.Whole.{opened}
@@ -25,7 +23,6 @@ use Rattle.fc_noted.specs.Stopping.{LeavesFirst}
 use Rattle.fc_noted.specs.declared.noted.Noted.{Noted}
 use Rattle.fc_owner.proofs.SessionOver.{gave_nothing}
 use Rattle.fc_owner.specs.FirstTold.{first_told}
-use Rattle.fc_owner.specs.StoreRuns.{Start}
 use Rattle.fc_recovery_text.specs.Recovering.{IsFirstText}
 use Rattle.fc_stands.specs.Store.{StandsFor, StoreView}
 use Rattle.fc_stopped.proofs.Ends.{all_back, far_ends}

@@ -1,5 +1,5 @@
 -- Memory was wanted before anything was read; or the first image isn't written; or the session runs.
-use Rattle.std.proofs.Common.{◌≡◌, ◌+◌, ◌≤◌, ◌++◌, List, [], Vec, Global, length, map, ap, sym, ◌∙◌, arith, refl, vec_len, vec_capacity}
+use Rattle.std.proofs.Common.{◌≡◌, ◌++◌, List, [], Vec, Global, length, map, ap, ◌∙◌, arith, refl, vec_len, vec_capacity}
 use Rattle.std.proofs.lemmas.List.{length-map}
 use Rattle.fc_call.specs.Call.{Call}
 use Rattle.fc_grains.specs.Grains.{pool_of, total_of}
