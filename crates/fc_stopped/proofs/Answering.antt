@@ -1,5 +1,5 @@
 -- One line more: the noted store goes on to answer lines, or leaves what is told of the first entries; and the history only grows.
-use Rattle.std.proofs.Common.{◌≡◌, ℕ, ◌≤◌, List, [], ◌∷◌, ◌++◌, codes, length, map, sym, ◌∙◌, ap, subst, Option, Some, None, Result, Ok, Err, OnOk, IfErr, true}
+use Rattle.std.proofs.Common.{◌≡◌, ℕ, ◌≤◌, List, [], ◌∷◌, ◌++◌, length, map, sym, ◌∙◌, subst, Option, None, Result, Ok, Err, OnOk, IfErr, true}
 use Rattle.std.proofs.lemmas.List.{map-append}
 use Rattle.fc_agenda.proofs.Going.{GoesSome-asking, GoesSome-whole}
 use Rattle.fc_agenda.specs.Goes.{GoesAsking, GoesSome, GoesToEnd}
@@ -30,7 +30,7 @@ use Rattle.fc_owner.specs.StoreRuns.{Start}
 use Rattle.fc_run.specs.Runs.{GrowsTo, LineLeaves}
 use Rattle.fc_stopped.proofs.Lanes.{lanes_kept}
 use Rattle.fc_stopped.proofs.Left.{answered_left}
-use Rattle.fc_stopped.specs.Lines.{HasAnswered, HasLeft, LineIsAnswered, RunsLines, RunsSome, RunsAsking, noted_runs, stop_told}
+use Rattle.fc_stopped.specs.Lines.{HasAnswered, HasLeft, LineIsAnswered, RunsSome, RunsAsking, noted_runs, stop_told}
 use Rattle.fc_stopped.specs.Reading.{stop_reading}
 
 more_lines : (lines : List (List ℕ)) (line : List ℕ) → map single lines ++ single line ∷ [] ≡ map single (lines ++ line ∷ [])

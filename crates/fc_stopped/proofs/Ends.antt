@@ -1,5 +1,5 @@
 -- How a call ends: by how far its session came, or by the status of its session.
-use Rattle.std.proofs.Common.{◌≡◌, ◌⊎◌, ℕ, ◌≤◌, true, false, List, [], ◌++◌, inl, inr, sym, ap, subst, ◌∙◌, append_assoc, Option, Some, None, Ok, Err}
+use Rattle.std.proofs.Common.{◌≡◌, ℕ, true, false, List, [], ◌++◌, inl, inr, sym, subst, append_assoc, Option, Some, None, Err}
 use Rattle.std.proofs.lemmas.List.{append-nil}
 use Rattle.fc_base.specs.declared.size.GrainSize.TheVariants.{K64}
 use Rattle.fc_call.specs.Call.{Call}
@@ -14,7 +14,6 @@ use Rattle.fc_marks.specs.declared.error.NotedStop.{NotedStop}
 use Rattle.fc_marks.specs.declared.error.NotedStop.TheVariants.{LogFull, MetaFailed, MetaFull, NoMemory}
 use Rattle.fc_mdisk.specs.Disk.{DiskState}
 use Rattle.fc_recovery_text.specs.Recovering.{IsFirstText}
-use Rattle.fc_run.specs.Input.{OfFirstTaken, input_limit}
 use Rattle.fc_run.specs.Output.{IsWritten}
 use Rattle.fc_run.specs.declared.ended.Ended.{Ended}
 use Rattle.fc_run.specs.declared.ended.Ended.TheVariants as ended
@@ -22,7 +21,7 @@ use Rattle.fc_stopped.proofs.Putting.{adds_all}
 use Rattle.fc_stopped.proofs.Sessions.{CallTo, CameFar, TakesSome}
 use Rattle.fc_stopped.specs.Ending.{EndsUnopened, StatePut, TextEnds, over_disks}
 use Rattle.fc_stopped.specs.Far.{far_of}
-use Rattle.fc_stopped.specs.Stopped.{AnswersSome, ComeBack, EndsBy, IsState}
+use Rattle.fc_stopped.specs.Stopped.{ComeBack, EndsBy, IsState}
 use Rattle.fc_stopped.specs.Text.{far_text}
 use Rattle.fc_stopped.specs.declared.far.Far.{Far}
 use Rattle.fc_stopped.specs.declared.far.Far.TheVariants.{ToCall, ToFull}

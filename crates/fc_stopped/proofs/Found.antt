@@ -1,12 +1,10 @@
 -- What is found after a stop: it may be read, and its text is that of what may be recovered.
-use Rattle.std.proofs.Common.{◌≡◌, ◌⊎◌, ℕ, ◌<◌, ◌%◌, ◌==◌, Bool, true, false, List, [], ◌∷◌, ◌++◌, inl, inr, length, replicate, refl, sym, ap, subst, ◌∙◌, Option, Some, None, if◌then◌else◌, find}
+use Rattle.std.proofs.Common.{◌≡◌, ◌⊎◌, ℕ, ◌%◌, ◌==◌, Bool, true, false, List, [], inl, inr, length, replicate, refl, sym, ap, subst, ◌∙◌, None, if◌then◌else◌}
 use Rattle.std.proofs.lemmas.List.{append-nil, length-replicate}
 use Rattle.fc_base.specs.Pools.{Pool}
 use Rattle.fc_base.specs.declared.limits.TheConstants.{LANES}
-use Rattle.fc_base.specs.declared.request.Request.{Request}
 use Rattle.fc_base.specs.declared.size.GrainSize.TheVariants.{K64}
 use Rattle.fc_base.specs.declared.volume.Volume.{Volume}
-use Rattle.fc_changed.specs.Row.{Row}
 use Rattle.fc_entry.specs.HistoryState.{HistoryState}
 use Rattle.fc_format.specs.Halves.{Found, Image, NoImage, recovered}
 use Rattle.fc_held.specs.Held.{HoldAllOf}
@@ -14,11 +12,10 @@ use Rattle.fc_image.specs.declared.image.MetaImage.{MetaImage}
 use Rattle.fc_kept.specs.Disks.{NamedDisk}
 use Rattle.fc_kept.specs.Images.{kept_in}
 use Rattle.fc_kept.specs.Kept.{Kept}
-use Rattle.fc_kept.specs.OneGrain.{Another}
 use Rattle.fc_kept.specs.Recoverable.{Recoverable, disks_at}
 use Rattle.fc_kept.specs.Sound.{IsSoundImage}
 use Rattle.fc_lanes.specs.Dealing.{pools_dealt}
-use Rattle.fc_legal.specs.Whole.{Whole, opened}
+use Rattle.fc_legal.specs.Whole.{Whole}
 use Rattle.fc_marks.specs.declared.error.NotedStop.{NotedStop}
 use Rattle.fc_marks.specs.declared.error.NotedStop.TheVariants.{LogFull}
 use Rattle.fc_mdisk.specs.Disk.{DiskState}
@@ -27,7 +24,7 @@ use Rattle.fc_noted.specs.Stopping.{Leaves, LeavesFirst}
 use Rattle.fc_noted.specs.declared.noted.Noted.{Noted}
 use Rattle.fc_owner.specs.FirstTold.{first_told}
 use Rattle.fc_recovered.specs.Readying.{readied}
-use Rattle.fc_recovered.specs.Recovered.{AreReadied, CanRecover}
+use Rattle.fc_recovered.specs.Recovered.{CanRecover}
 use Rattle.fc_recovered.specs.Showing.{lane_over}
 use Rattle.fc_recovery_text.specs.Recovering.{AreRead, AreRead.all, IsFirstText, IsFoundGood, IsImageText, IsStateText}
 use Rattle.fc_recovery_text.specs.Text.{lines_text, rows_in}

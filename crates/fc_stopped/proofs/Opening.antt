@@ -1,17 +1,15 @@
 -- A call before its first line: the noted store that it opens, or the first image that isn't written.
-use Rattle.std.proofs.Common.{◌≡◌, ◌⊎◌, ℕ, ◌<◌, ◌≤◌, ◌^◌, true, List, [], ◌∷◌, ◌++◌, All, inl, inr, length, replicate, refl, sym, ap, subst, ◌∙◌, arith, Option, Some, None}
+use Rattle.std.proofs.Common.{◌≡◌, ℕ, ◌<◌, ◌^◌, true, List, [], ◌++◌, All, inl, inr, length, replicate, refl, sym, ap, subst, ◌∙◌, arith, None}
 use Rattle.std.proofs.lemmas.List.{length-replicate}
 use Rattle.fc_base.specs.declared.limits.TheConstants.{LANES}
 use Rattle.fc_base.specs.declared.size.GrainSize.{GrainSize}
 use Rattle.fc_base.specs.declared.size.GrainSize.TheVariants.{K64}
 use Rattle.fc_call.specs.Call.{Call}
-use Rattle.fc_call.specs.declared.status.Status.TheVariants as status
 use Rattle.fc_entry.specs.HistoryState.{HistoryState}
 use Rattle.fc_entry.specs.Text.{history_text}
-use Rattle.fc_entry.specs.declared.entry.Entry.{Entry}
 use Rattle.fc_format.specs.Halves.{recovered}
 use Rattle.fc_grains.specs.Grains.{pool_of}
-use Rattle.fc_lanes.specs.Dealing.{Begin, all_dealt, pools_dealt}
+use Rattle.fc_lanes.specs.Dealing.{Begin, all_dealt}
 use Rattle.fc_legal.proofs.Appending.{IsRun-nil}
 use Rattle.fc_legal.specs.Run.{IsRun}
 use Rattle.fc_legal.specs.Whole.{opened}
@@ -25,7 +23,6 @@ use Rattle.fc_noted.specs.Stopping.{LeavesFirst}
 use Rattle.fc_noted.specs.declared.noted.Noted.{Noted}
 use Rattle.fc_owner.proofs.SessionOver.{gave_nothing}
 use Rattle.fc_owner.specs.FirstTold.{first_told}
-use Rattle.fc_owner.specs.StoreRuns.{Start}
 use Rattle.fc_recovery_text.specs.Recovering.{IsFirstText}
 use Rattle.fc_stands.specs.Store.{StandsFor, StoreView}
 use Rattle.fc_stopped.proofs.Ends.{all_back, far_ends}
@@ -44,15 +41,17 @@ use Rattle.fc_stopped.specs.declared.far.Far.TheVariants.{ToCall, ToFull}
 
 -- ---- the store
 
-pub begins_over : (count : ℕ) (disks : List DiskState) (s : StoreView) → length disks ≡ count → count < 2 ^ 30 → All IsFresh disks → StandsFor s (first_told disks) → s.control.grain ≡ K64 →
-    Begin K64 LANES (all_dealt LANES disks) s.lanes → BeginsOver count disks s
-begins_over count disks s counted few fresh stands grain begin =
+-- It was made over the disks that were taken.
+pub begins_over : (count : ℕ) (disks taken : List DiskState) (s : StoreView) → taken ≡ disks → length disks ≡ count → count < 2 ^ 30 → All IsFresh disks → StandsFor s (first_told taken) → s.control.grain ≡ K64 →
+    Begin K64 LANES (all_dealt LANES taken) s.lanes → BeginsOver count disks s
+begins_over count disks taken s same counted few fresh stands grain begin =
     record {
       counted = counted;
       few = few;
       fresh = fresh;
-      stands = stands;
-      begin = subst (λ (g : GrainSize). Begin g LANES (all_dealt LANES disks) s.lanes) (sym grain) begin;
+      stands = subst (λ (ds : List DiskState). StandsFor s (first_told ds)) same stands;
+      begin = subst (λ (g : GrainSize). Begin g LANES (all_dealt LANES disks) s.lanes) (sym grain)
+          (subst (λ (ds : List DiskState). Begin K64 LANES (all_dealt LANES ds) s.lanes) same begin);
     }
 
 pub begin_lanes : (count : ℕ) (disks : List DiskState) (s : StoreView) → s.control.grain ≡ K64 → BeginsOver count disks s → HasLanes (over_disks disks) s.lanes

@@ -1,5 +1,5 @@
 -- A call for which memory was wanted before anything was read or written.
-use Rattle.std.proofs.Common.{◌≡◌, ◌⊎◌, ℕ, List, [], ◌∷◌, ◌++◌, codes, length, inl, inr, refl, sym, ap, subst, ◌∙◌, arith}
+use Rattle.std.proofs.Common.{◌≡◌, ◌⊎◌, ℕ, List, [], ◌++◌, inl, inr, refl, sym, ap, subst, arith}
 use Rattle.fc_base.specs.declared.size.GrainSize.TheVariants.{K64}
 use Rattle.fc_call.specs.Call.{Call, empty}
 use Rattle.fc_call.specs.declared.status.Status.{Status}

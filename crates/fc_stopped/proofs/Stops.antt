@@ -1,5 +1,5 @@
 -- A call that ran a session over a noted store.
-use Rattle.std.proofs.Common.{◌≡◌, ◌⊎◌, ℕ, ◌<◌, ◌≤◌, ◌^◌, ◌++◌, List, inl, inr, length, sym, subst, arith, Option, Ok, Err}
+use Rattle.std.proofs.Common.{◌≡◌, ℕ, ◌≤◌, ◌++◌, List, inl, inr, length, arith, Option, Ok, Err}
 use Rattle.fc_base.specs.Count.{HasRisen}
 use Rattle.fc_call.specs.Call.{Call}
 use Rattle.fc_call.specs.declared.status.Status.{Status}

@@ -1,5 +1,5 @@
 -- How far a session came, by how it ended and why its lines were no longer answered; else the status of its call.
-use Rattle.std.specs.Prelude.{ℕ, Option, Some, None, Result, Ok, Err}
+use Rattle.std.specs.Prelude.{ℕ, Option, Some, Result, Ok, Err}
 use Rattle.fc_call.specs.Call.{status_of}
 use Rattle.fc_call.specs.declared.status.Status.{Status}
 use Rattle.fc_call.specs.declared.status.Status.TheVariants as status

@@ -1,5 +1,5 @@
 -- A noted store that answers the lines of a session: what it stands for after some of them.
-use Rattle.std.specs.Prelude.{◌≡◌, ℕ, ◌<◌, true, false, List, [], ◌∷◌, length, map, slice_index_or, Option, Some, None, Result, Ok, Err}
+use Rattle.std.specs.Prelude.{◌≡◌, ℕ, ◌<◌, true, false, List, [], ◌∷◌, length, map, slice_index_or, Option, None, Result, Ok, Err}
 use Rattle.fc_agenda.specs.Goes.{GoesToEnd}
 use Rattle.fc_base.specs.declared.limits.TheConstants.{LANES}
 use Rattle.fc_blocks.specs.Segments.{single}

@@ -98,8 +98,10 @@ fn put_text_alone<K: Sink>(history: &History, sink: &mut K) -> Result<(), Failed
     requires { HasNames history.now }
     ensures { IsWritten (K.meaning sink.old) (history_text history.now) (is_err result) (K.meaning sink.new) }
 {
-    put_history(history, sink)?;
-    sink.flush()
+    match put_history(history, sink) {
+        Ok(()) => sink.flush(),
+        Err(failed) => Err(failed),
+    }
 }
 
 /// Puts the text of a history, and how far the session came.

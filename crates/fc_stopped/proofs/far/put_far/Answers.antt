@@ -3,7 +3,7 @@ use Rattle.std.proofs.Common.{◌≡◌, ℕ, List, ◌++◌, codes, decimal, is
 use Rattle.fc_entry.specs.Written.{Written}
 use Rattle.fc_stopped.specs.Text.{far_text}
 use Rattle.fc_stopped.specs.declared.far.Far.{Far}
-use Rattle.fc_stopped.specs.declared.far.Far.TheVariants.{ToCall, ToFull}
+use Rattle.fc_stopped.specs.declared.far.Far.TheVariants.{ToCall}
 use Rattle.fc_stopped.proofs.far.put_far.Goals as goal
 
 call_line : (call : ℕ) (digits : List ℕ) → digits ≡ decimal call → codes "stopped at " ++ (digits ++ codes "\n") ≡ far_text (ToCall call)

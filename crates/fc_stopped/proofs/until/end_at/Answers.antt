@@ -1,5 +1,5 @@
 -- The text of the history and how far the session came are put, and then what is found.
-use Rattle.std.proofs.Common.{◌≡◌, ℕ, List, ◌++◌, ap, sym, subst, ◌∙◌}
+use Rattle.std.proofs.Common.{ℕ, List, ◌++◌, ap, sym, subst, ◌∙◌}
 use Rattle.fc_base.specs.declared.size.GrainSize.TheVariants.{K64}
 use Rattle.fc_entry.specs.Text.{history_text}
 use Rattle.fc_format.specs.Halves.{recovered}

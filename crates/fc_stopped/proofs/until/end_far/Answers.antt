@@ -1,5 +1,5 @@
 -- What is found may be read with the disks that the store gives back.
-use Rattle.std.proofs.Common.{◌≡◌, ℕ, List, ◌++◌, length, ap, sym, subst, ◌∙◌, arith}
+use Rattle.std.proofs.Common.{◌≡◌, List, ◌++◌, length, ap, sym, subst, ◌∙◌, arith}
 use Rattle.fc_base.specs.declared.size.GrainSize.TheVariants.{K64}
 use Rattle.fc_entry.specs.Text.{history_text}
 use Rattle.fc_format.specs.Halves.{recovered}

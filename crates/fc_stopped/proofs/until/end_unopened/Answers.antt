@@ -1,7 +1,6 @@
 -- How far it came is put, and that there is no image, or one that says nothing.
-use Rattle.std.proofs.Common.{◌≡◌, List, ℕ, ap, subst}
+use Rattle.std.proofs.Common.{subst}
 use Rattle.fc_base.specs.declared.size.GrainSize.TheVariants.{K64}
-use Rattle.fc_call.specs.declared.status.Status.{Status}
 use Rattle.fc_call.specs.declared.status.Status.TheVariants as status
 use Rattle.fc_format.specs.Halves.{recovered}
 use Rattle.fc_metadisk.specs.Stop.{MemState, found_after}

@@ -1,5 +1,5 @@
 -- One lane more is given.
-use Rattle.std.proofs.Common.{◌≡◌, ◌+◌, ◌≤◌, ◌∷◌, ◌++◌, [], List, length, map, ap, sym, ◌∙◌, arith, vec_len, vec_capacity}
+use Rattle.std.proofs.Common.{◌≡◌, ◌∷◌, ◌++◌, [], List, length, ap, sym, ◌∙◌, arith}
 use Rattle.fc_kept.specs.Disks.{NamedDisk}
 use Rattle.fc_lanes.proofs.DealLists.{moved}
 use Rattle.fc_stopped.proofs.Giving.{given_count, lane_given, room_of_lane}

@@ -1,5 +1,5 @@
 -- One disk more is given.
-use Rattle.std.proofs.Common.{◌≡◌, suc, ◌<◌, ◌∷◌, ◌++◌, [], List, IsOk, length, map, ap, sym, ◌∙◌, arith, vec_len, vec_capacity}
+use Rattle.std.proofs.Common.{◌≡◌, suc, ◌<◌, ◌∷◌, ◌++◌, [], List, length, map, ap, sym, ◌∙◌, arith, vec_len, vec_capacity}
 use Rattle.fc_kept.specs.Disks.{NamedDisk}
 use Rattle.fc_lanes.proofs.DealLists.{moved}
 use Rattle.fc_stopped.proofs.Giving.{disk_given, pushed}
