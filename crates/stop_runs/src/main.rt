@@ -1,47 +1,65 @@
-//! Sessions that stop at each call of their disk of metadata.
+//! A session that stops at each call of its disk of metadata: what is printed, call by call.
 //!
-//! Without words the worked session is stopped at each of its calls, and what is written is printed; then some drawn sessions are run.
-//! With two numbers the drawn sessions from the first up to the second are run. Each is stopped at every call, recovered, and all that
-//! is read and reported is compared with plain volumes after the entries that were answered.
-//!
-//! In reading order: `worked`; `draws`, `drawn` (a session by its number), `reference` (what a session leads to, entry by entry), `stopped`
-//! (what a stop leaves), `images`, `judged` (what is compared), `generated`; `disks` and `texts` are what they share.
+//! The session is that of docs/MANUAL.md, "Stops". Its calls are 40, so at the forty-first it isn't stopped. Before what is printed of
+//! each stands a line with the call, the status, and how many disks of data came back.
 #![tactic(auto)]
 
-mod disks;
-mod drawn;
-mod draws;
-mod generated;
-mod images;
-mod judged;
-mod reference;
-mod stopped;
-mod texts;
-mod worked;
+ghost use Rattle.std.specs.Prelude.{◌<◌};
 
-use crate::generated::run_generated;
-use crate::worked::run_worked;
-use std::{env, io};
+use fc_entry::history::History;
+use fc_io::mem_sink::MemSink;
+use fc_io::mem_source::MemSource;
+use fc_metadisk::StopMeta;
+use fc_stopped::run_over;
+use made_disks::flat_disks;
+use std::alloc::{AllocError, Global};
+use std::io;
 
-/// How many drawn sessions are run without words.
-const SESSIONS: u64 = 10;
+/// The lines of the session.
+const SESSION: &str = "mkvdisk -name A -size 128 -unit kb
+mkvdisk -name B -size 128 -unit kb
+write A 0 1 11
+mkfcmap -source A -target B -copyrate 0
+startfcmap -prep 0
+write A 0 1 22
+";
 
-/// A number, or 0.
-fn number(word: Option<String>) -> u64 {
-    match word {
-        Some(word) => word.parse::<u64>().unwrap_or(0),
-        None => 0,
-    }
+/// The bytes of the disk of metadata.
+const META_BYTES: u32 = 4096;
+
+/// How many disks of data there are.
+const DISKS: u32 = 64;
+
+/// What is written of the session, stopped at this call: the status, how many disks come back, and the text.
+fn stopped_at(alloc: Global, call: u32) -> Result<(u8, usize, MemSink), AllocError>
+    requires { 0 < call }
+{
+    let bytes = Vec::from_slice(alloc, SESSION.as_bytes())?;
+    let mut source = MemSource::new(bytes, 4096, Vec::new(alloc));
+    let mut sink = MemSink::new(alloc, Vec::new(alloc));
+    let mut history = History::new(alloc);
+    let mut disks = flat_disks(alloc, DISKS)?;
+    let Ok(meta) = StopMeta::new(alloc, META_BYTES, call) else {
+        return Err(AllocError);
+    };
+    let status = run_over(
+        alloc,
+        call,
+        meta,
+        &mut source,
+        &mut sink,
+        &mut disks,
+        &mut history,
+    );
+    Ok((status.code(), disks.len(), sink))
 }
 
 fn main(rt: HostRuntime) -> io::Result<()> {
     let alloc = rt.alloc();
-    let mut words = env::args(&rt)?.skip(1);
-    let Some(first) = words.next() else {
-        run_worked(&rt, alloc)?;
-        return run_generated(&rt, alloc, 0, SESSIONS);
-    };
-    let from = number(Some(first));
-    let to = number(words.next());
-    run_generated(&rt, alloc, from, to)
+    for call in 1..42 {
+        let (status, disks, sink) = stopped_at(alloc, call)?;
+        println!(rt; "== {call} status {status} disks {disks}")?;
+        rt.stdout().write_all(sink.bytes())?;
+    }
+    Ok(())
 }
