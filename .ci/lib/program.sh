@@ -234,7 +234,7 @@ drills() {
 stops() {
     echo "== stops"
     local call
-    sed -n 's/\\n/\n/g; /^const SESSION/,/^";/p' crates/stop_runs/src/worked.rt |
+    sed -n 's/\\n/\n/g; /^const SESSION/,/^";/p' crates/stop_runs/src/main.rt |
         sed -e 's/^const SESSION: &str = "//' -e '/^";$/d' >"$room/session"
     for call in 1 2 3 4 5 11 17 33 35 36 37 40 41; do
         run_program stop "$call" <"$room/session"
@@ -243,7 +243,7 @@ stops() {
         holds "stop $call isn't what stands in the table" cmp -s "$room/out" "$room/stopped"
     done
     # presets and the lines of blocks name no line there
-    run_program stop 100 < <(printf '%s\n' 'mkpreset -source A -type clone -name x' together 'actor a host' end)
+    run_program stop 100 < <(printf '%s\n' 'mkpreset -source A -preset clone -name x' together 'actor a host' end)
     is "stop of lines that aren't there: status" 0 "$status"
     is "lines that aren't there" 4 "$(grep -c ' main - -> refused unknown command$' "$room/out")"
     run_program stop 1 <"$room"
