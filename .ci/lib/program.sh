@@ -230,30 +230,6 @@ drills() {
     holds "a drill took bytes of its input" cmp -s "$room/out" examples/first-volume
 }
 
-# ---- stops: the worked session, stopped at calls of its disk of metadata; what is printed stands in the table of stop_runs
-stops() {
-    echo "== stops"
-    local call
-    sed -n 's/\\n/\n/g; /^const SESSION/,/^";/p' crates/stop_runs/src/main.rt |
-        sed -e 's/^const SESSION: &str = "//' -e '/^";$/d' >"$room/session"
-    for call in 1 2 3 4 5 11 17 33 35 36 37 40 41; do
-        run_program stop "$call" <"$room/session"
-        is "stop $call: status" 0 "$status"
-        awk -v call="$call" '/^== / { on = $2 == call; next } on' crates/stop_runs/stdout >"$room/stopped"
-        holds "stop $call isn't what stands in the table" cmp -s "$room/out" "$room/stopped"
-    done
-    # presets and the lines of blocks name no line there
-    run_program stop 100 < <(printf '%s\n' 'mkpreset -source A -preset clone -name x' together 'actor a host' end)
-    is "stop of lines that aren't there: status" 0 "$status"
-    is "lines that aren't there" 4 "$(grep -c ' main - -> refused unknown command$' "$room/out")"
-    run_program stop 1 <"$room"
-    is "stop, and standard input fails: status" 0 "$status"
-    run_program stop 100 <"$room"
-    is "stop past the first calls, and standard input fails: status" 3 "$status"
-    timeout "$most_seconds" "$program" stop 100 <"$room/session" >/dev/full 2>"$room/err"
-    is "stop, and standard output fails: status" 4 $?
-}
-
 # ---- limits: the input, the entries of the history, and the grains of all volumes
 newlines() { head -c "$1" /dev/zero | tr '\0' '\n'; }
 one_line() { head -c "$1" /dev/zero | tr '\0' 'x'; }
