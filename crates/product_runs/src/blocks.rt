@@ -1,8 +1,8 @@
 //! Sessions with blocks of actors, run many times over disks in memory, and each history judged.
 //!
 //! Actors come in another order in each run, so a history is not compared but judged (`fc_judge`). The session `together` is run 20
-//! times over flat disks, and a generated session of 40 blocks of 16 actors with every role 60 times over disks of which some
-//! calls fail and 60 times over thin disks with armed faults. It is printed how many of each were right, how many ended for want
+//! times over flat disks, and a generated session of 40 blocks of 16 actors with every role 25 times over disks of which some
+//! calls fail and 25 times over thin disks with armed faults. It is printed how many of each were right, how many ended for want
 //! of memory, if any did, and what the first wrong one says. `bench/together.sh` has `together` alone run as often as it asks.
 //!
 //! In reading order: `together` (the session), `generated` (the session of 40 blocks), `tally` (what came of some runs), `runs`, and
@@ -26,7 +26,7 @@ use std::thread::Threads;
 const RUNS: u32 = 20;
 
 /// How often the generated session is run over each kind of disks.
-const GENERATED_RUNS: u32 = 60;
+const GENERATED_RUNS: u32 = 25;
 
 /// The number of the generated session.
 const NUMBER: u64 = 7;
