@@ -3,14 +3,13 @@
 use Rattle.std.proofs.Common.{◌≡◌, ℕ, ◌<◌, length, drop, take, slice_index_or, slice_set, refl, sym, ap, subst, ◌∙◌, inl, inr, length-set, get_or-set_same, get_or-set_other}
 use Rattle.std.proofs.lemmas.Bool.{cases_eq}
 use Rattle.std.proofs.lemmas.List.{get_or_default}
-use Rattle.fc_base.specs.declared.decision.Decision.{Decision}
 use Rattle.fc_grains.specs.Grains.{GrainsState}
 use Rattle.fc_lane.specs.Doing.{IsUnderWay}
 use Rattle.fc_lane.specs.Lane.{IsSameLane, LaneView, of}
 use Rattle.fc_lane.specs.declared.doing.Doing.{Doing}
 use Rattle.fc_lanes.specs.AllLanes.{EachLane}
 use Rattle.fc_noted.proofs.Holding.{HoldSame, as_many, same_at}
-use Rattle.fc_noted.specs.Making.{HasActed, HasItsDisks, HasStayed, KeepLanes, MayHaveActed}
+use Rattle.fc_noted.specs.Making.{HasItsDisks, KeepLanes}
 use Rattle.fc_stands.specs.Store.{StoreView}
 use Rattle.fc_steps.specs.Moving.{SameLane}
 use Rattle.fc_steps.specs.declared.stepping.Steps.{Steps}
@@ -55,7 +54,7 @@ lanes_hold old new same =
 -- ---- by what one lane says
 
 -- where the others are as they were
-pub keeps_in_lane : (place : ℕ) (old new : StoreView) → IsInLane place old new → HasItsDisks (lane_in old place) (lane_in new place) → KeepLanes old new
+keeps_in_lane : (place : ℕ) (old new : StoreView) → IsInLane place old new → HasItsDisks (lane_in old place) (lane_in new place) → KeepLanes old new
 keeps_in_lane place old new is keeps =
     let lane : LaneView = lane_in new place in
     subst (KeepLanes old) (sym is)
@@ -83,7 +82,7 @@ stays_in_lane place old new is same = keeps_in_lane place old new is (same.grain
 -- ---- by steps of an entry
 
 -- since it began
-pub way_keeps : (lane : LaneView) (doing : Doing) (now : LaneView) → IsUnderWay lane doing now → HasItsDisks lane now
+way_keeps : (lane : LaneView) (doing : Doing) (now : LaneView) → IsUnderWay lane doing now → HasItsDisks lane now
 way_keeps lane doing now way =
     let c = way.came way.can.0 way.can.1 way.can.2 in
     let s : Steps = doing.steps in
@@ -101,15 +100,3 @@ step_keeps place old new lane doing after is way next =
     let x = way_keeps lane doing (lane_in old place) way in
     let y = way_keeps lane after (lane_in new place) next in
     keeps_in_lane place old new is (y.0 ∙ sym x.0, y.1 ∙ sym x.1)
-
--- ---- by a command
-
-pub stayed_keeps : (old new : StoreView) → HasStayed old new → KeepLanes old new
-stayed_keeps old new stayed = lanes_same old new stayed.lanes
-
-pub acted_keeps : (d : Decision) (old new : StoreView) → HasActed d old new → KeepLanes old new
-acted_keeps d old new acted = lanes_same old new acted.lanes
-
-pub may_keep : (d : Decision) (old new : StoreView) → MayHaveActed d old new → KeepLanes old new
-may_keep d old new (inl stayed) = stayed_keeps old new stayed
-may_keep d old new (inr acted) = acted_keeps d old new acted.0
