@@ -13,6 +13,7 @@ use Rattle.fc_kept.specs.Disks.{NamedDisk, disk_of, on_disk, is_free, is_kind}
 use Rattle.fc_kept.specs.Kept.{Kept, is_lost_in}
 use Rattle.fc_kept.specs.Recoverable.{disks_at}
 use Rattle.fc_lane.specs.Lane.{LaneView}
+use Rattle.fc_mdisk.specs.Disks.{calls_of, faults_of}
 use Rattle.fc_rules.specs.LaneTold.{LaneOf, number_at}
 use Rattle.fc_stands.specs.Store.{StoreView}
 use Rattle.fc_steps.specs.Standing.{kind_of_grains}
@@ -32,7 +33,7 @@ abbrev pub HasNoName : NamedDisk → Type 0
 HasNoName d = d.volume ≡ None
 
 -- The disks of the volumes, from the last to the first, with whole grains; then those of the pool, and those put aside, without a name.
--- These are all that the lane has, of each kind as many as it says.
+-- These are all that the lane has, of each kind as many as it says, with no fewer calls and faults.
 pub record HoldLane (named : ℕ) (g : GrainsState) (ds : List NamedDisk) : Type 0 where
   pub own : List NamedDisk
   pub rest : List NamedDisk
@@ -42,6 +43,8 @@ pub record HoldLane (named : ℕ) (g : GrainsState) (ds : List NamedDisk) : Type
   pub free : map (λ (d : NamedDisk). d.disk) rest ≡ g.pooled ++ g.aside
   pub unnamed : (d : NamedDisk) → Contains rest d → HasNoName d
   pub kinds : pool_of (map (λ (d : NamedDisk). d.disk) ds) ≡ g.disks
+  pub calls : g.calls ≤ calls_of (map (λ (d : NamedDisk). d.disk) ds)
+  pub faults : g.faults ≤ faults_of (map (λ (d : NamedDisk). d.disk) ds)
 
 -- Lane by lane.
 pub record HoldAllOf (named : ℕ) (lanes : List LaneView) (ds : List (List NamedDisk)) : Type 0 where

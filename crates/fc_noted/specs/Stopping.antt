@@ -1,6 +1,7 @@
 -- What a stop leaves.
-use Rattle.std.specs.Prelude.{◌≡◌, ◌⊎◌, ℕ, true, List, [], ◌∷◌, length, Option, Some, None, Result, Ok, Err, slice_index_or}
-use Rattle.fc_agenda.specs.Goes.{GoesAsking, GoesSome}
+use Rattle.std.specs.Prelude.{◌≡◌, ◌⊎◌, ℕ, ◌<◌, ◌≤◌, true, List, [], ◌∷◌, length, Option, Some, None, Result, Ok, Err, slice_get, slice_index_or}
+use Rattle.fc_agenda.specs.Goes.{Goes, GoesAsking}
+use Rattle.fc_base.specs.Count.{HasRisen}
 use Rattle.fc_base.specs.declared.request.Request.{Request}
 use Rattle.fc_base.specs.declared.size.GrainSize.{GrainSize}
 use Rattle.fc_blocks.specs.Segments.{single}
@@ -11,14 +12,13 @@ use Rattle.fc_grains.specs.Volumes.{VolumeGrains, is_there, volume_of}
 use Rattle.fc_image.specs.declared.image.MetaImage.{MetaImage}
 use Rattle.fc_kept.specs.Disks.{NamedDisk}
 use Rattle.fc_kept.specs.Images.{kept_in}
-use Rattle.fc_kept.specs.OneGrain.{Another}
-use Rattle.fc_kept.specs.Recoverable.{Recoverable}
 use Rattle.fc_kept.specs.Sound.{IsSoundImage}
 use Rattle.fc_lane.specs.Lane.{LaneView}
 use Rattle.fc_legal.specs.Added.{Adds, IsOf}
 use Rattle.fc_legal.specs.Agenda.{Agenda, Asks, Reading, Session, session_rules}
 use Rattle.fc_legal.specs.Whole.{Whole}
 use Rattle.law_crash.specs.Points.{nothing_kept}
+use Rattle.law_noted.specs.One.{IsSafe}
 use Rattle.fc_script.specs.Passage.{GoesOn}
 use Rattle.fc_script.specs.Script.{agenda_of}
 use Rattle.fc_script.specs.declared.script.Script.{Script}
@@ -33,6 +33,17 @@ abbrev pub IsAskedOf : GrainSize → Whole → Option Request → Script → Typ
 IsAskedOf grain w None script = Unit {0}
 IsAskedOf grain w (Some request) script = Asks grain (agenda_of grain script) w (0, request)
 
+-- More faults of a lane's disks were counted than are told.
+abbrev pub MoreFailed : Whole → List LaneView → Type 0
+MoreFailed w lanes = (i : ℕ) × (lane : LaneView) × (slice_get lanes i ≡ Some lane) × HasRisen (slice_index_or w.faults i 0) lane.grains.faults
+
+-- The calls and faults that are told were counted, lane by lane.
+pub record AreCounted (w : Whole) (lanes : List LaneView) : Type 0 where
+  pub of_calls : length lanes ≡ length w.calls
+  pub of_faults : length lanes ≡ length w.faults
+  pub calls : (i : ℕ) (d : LaneView) → i < length lanes → slice_index_or w.calls i 0 ≤ (slice_index_or lanes i d).grains.calls
+  pub faults : (i : ℕ) (d : LaneView) → i < length lanes → slice_index_or w.faults i 0 ≤ (slice_index_or lanes i d).grains.faults
+
 -- Whatever the lanes give back, with an image it is what may be recovered of the history, with the entry of something that the
 -- script goes on to ask, if it asks anything.
 pub record MayBeRecovered (grain : GrainSize) (script : Script) (named : ℕ) (lanes : List LaneView) (w : Whole) (least : List Row) (image : MetaImage) : Type 0 where
@@ -42,7 +53,7 @@ pub record MayBeRecovered (grain : GrainSize) (script : Script) (named : ℕ) (l
   pub asked : IsAskedOf grain w request asking
   pub sound : IsSoundImage image
   pub found : (back : List (List NamedDisk)) → HoldAllOf named lanes back →
-      (one : Option Another) × Recoverable grain back (kept_in image) w least request one
+      IsSafe grain back (kept_in image) w least request (MoreFailed w lanes)
 
 -- No volume went or holds something else; some may have come.
 abbrev pub HoldsTheSame : VolumeGrains → VolumeGrains → Type 0
@@ -66,6 +77,7 @@ LeavesRecoverable old new w least c =
 -- Behind an error: whatever a crash leaves now, with what the lanes hold now. The disks can be given back.
 pub record HasStopped {C D : Type 0} (may_leave : D → List ℕ → Type 0) (old new : Noted C D) (w : Whole) (least : List Row) : Type 0 where
   pub volumes : HaveVolumes new.disks new.store
+  pub counted : AreCounted w new.store.lanes
   pub leaves : (c : List ℕ) → may_leave new.meta.disk c →
       (image : MetaImage) × (recovered c ≡ Image image) × MayBeRecovered old.store.control.grain old.script new.named new.store.lanes w least image
 
@@ -76,24 +88,31 @@ abbrev pub AsksSome : GrainSize → Script → Whole → Type 0
 AsksSome grain script w =
     (asking : Script) × (request : Request) × GoesOn grain w (agenda_of grain script) (agenda_of grain asking) × Asks grain (agenda_of grain asking) w (0, request)
 
+-- What is asked, if anything is, is next of an agenda, once what passes without an entry has passed.
+abbrev pub IsAskedSoon : GrainSize → Whole → Agenda → Option Request → Type 0
+IsAskedSoon grain w a None = Unit {0}
+IsAskedSoon grain w a (Some request) = (asking : Agenda) × GoesOn grain w a asking × Asks grain asking w (0, request)
+
 -- Whatever a crash leaves now is an image with which, whatever the lanes give back, what is told may be recovered, with something that
--- was asked and isn't answered, if anything was. The disks can be given back.
-pub record Leaves {C D : Type 0} (grain : GrainSize) (may_leave : D → List ℕ → Type 0) (n : Noted C D) (w : Whole) : Type 0 where
+-- this agenda asks and that isn't answered, if anything was. The disks can be given back.
+pub record Leaves {C D : Type 0} (grain : GrainSize) (may_leave : D → List ℕ → Type 0) (n : Noted C D) (w : Whole) (a : Agenda) : Type 0 where
   pub volumes : HaveVolumes n.disks n.store
+  pub counted : AreCounted w n.store.lanes
   pub found : (c : List ℕ) → may_leave n.meta.disk c →
       (image : MetaImage) × (recovered c ≡ Image image) × IsSoundImage image
       × ((back : List (List NamedDisk)) → HoldAllOf n.named n.store.lanes back →
-      (least : List Row) × (request : Option Request) × (one : Option Another) × Recoverable grain back (kept_in image) w least request one)
+      (least : List Row) × (request : Option Request) × IsAskedSoon grain w a request
+      × IsSafe grain back (kept_in image) w least request (MoreFailed w n.store.lanes))
 
 -- The first entries of an agenda were logged, for the history's limit all that there is room for; and with them it is left so.
 abbrev pub Halts : {C D : Type 0} → GrainSize → (may_leave : D → List ℕ → Type 0) → Reading → NotedStop → Agenda → Noted C D → Whole → HistoryState → HistoryState → Type 0
 Halts grain may_leave read LogFull a new w before after =
     (length after.entries ≡ 262144)
-    × ((next : Whole) × IsOf next after × Leaves grain may_leave new next
+    × ((next : Whole) × IsOf next after × ((left : Agenda) × Leaves grain may_leave new next left)
     × Adds before after (λ more. GoesAsking (session_rules grain read) a w more next))
 Halts grain may_leave read stop a new w before after =
-    (next : Whole) × IsOf next after × Leaves grain may_leave new next
-    × Adds before after (λ more. GoesSome (session_rules grain read) a w more next)
+    (next : Whole) × (left : Agenda) × IsOf next after × Leaves grain may_leave new next left
+    × Adds before after (λ more. Goes (session_rules grain read) a w more left next)
 
 -- The same of a line.
 abbrev pub LineHalts : {C D : Type 0} → (may_leave : D → List ℕ → Type 0) → Reading → NotedStop → Noted C D → Noted C D → List ℕ → Whole → HistoryState → HistoryState → Type 0

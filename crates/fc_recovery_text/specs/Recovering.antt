@@ -1,5 +1,5 @@
 -- What is written of an image and the disks of all lanes: the rows of all mappings, and what the first block of each volume reads.
-use Rattle.std.specs.Prelude.{◌≡◌, ℕ, List, [], ◌∷◌, ◌++◌, length, map, Option, Some, None}
+use Rattle.std.specs.Prelude.{◌≡◌, ℕ, ◌≤◌, List, [], ◌∷◌, ◌++◌, length, map, Option, Some, None}
 use Rattle.fc_base.specs.declared.request.ReadPart.{ReadPart}
 use Rattle.fc_base.specs.declared.request.Reply.{Reply}
 use Rattle.fc_base.specs.declared.size.GrainSize.{GrainSize}
@@ -12,6 +12,7 @@ use Rattle.fc_kept.specs.Disks.{NamedDisk}
 use Rattle.fc_kept.specs.Images.{kept_in, tables_in}
 use Rattle.fc_kept.specs.Recoverable.{disks_at}
 use Rattle.fc_mdisk.specs.Disk.{DiskState}
+use Rattle.fc_mdisk.specs.Disks.{calls_of, faults_of}
 use Rattle.fc_recovered.specs.Answering.{AfterReply, IsAnswerBy}
 use Rattle.fc_recovered.specs.Recovered.{AreReadied}
 use Rattle.fc_recovered.specs.Showing.{shown_at}
@@ -68,10 +69,12 @@ IsFirstText grain NoImage text = text ≡ no_image
 IsFirstText grain (Image image) text = text ≡ lines_text (rows_in grain image)
 IsFirstText grain (Damaged place) text = ⊥
 
--- As many disks of each kind, in each lane.
+-- As many disks of each kind, in each lane, with no fewer calls and faults.
 abbrev pub states_in : List (List NamedDisk) → ℕ → List DiskState
 states_in disks i = map (λ (d : NamedDisk). d.disk) (disks_at disks i)
 
 pub record KeepKinds (old new : List (List NamedDisk)) : Type 0 where
   pub count : length new ≡ length old
   pub each : (i : ℕ) → pool_of (states_in new i) ≡ pool_of (states_in old i)
+  pub calls : (i : ℕ) → calls_of (states_in old i) ≤ calls_of (states_in new i)
+  pub faults : (i : ℕ) → faults_of (states_in old i) ≤ faults_of (states_in new i)

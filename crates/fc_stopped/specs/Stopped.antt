@@ -1,5 +1,6 @@
 -- How a call ends that runs a session until a call of its disk of metadata.
-use Rattle.std.specs.Prelude.{◌≡◌, ◌⊎◌, ℕ, ◌+◌, ◌≤◌, List, [], ◌∷◌, ◌++◌, length, map, Option}
+use Rattle.std.specs.Prelude.{◌≡◌, ◌⊎◌, ℕ, ◌+◌, ◌-◌, ◌^◌, ◌<◌, ◌≤◌, List, [], ◌∷◌, ◌++◌, length, map, Option}
+use Rattle.fc_agenda.specs.Goes.{Goes}
 use Rattle.fc_base.specs.Count.{HasRisen}
 use Rattle.fc_base.specs.declared.request.Request.{Request}
 use Rattle.fc_base.specs.declared.size.GrainSize.TheVariants.{K64}
@@ -16,21 +17,24 @@ use Rattle.fc_image.specs.declared.image.MetaImage.{MetaImage}
 use Rattle.fc_io.specs.Sink.{AddsFront, held_with}
 use Rattle.fc_kept.specs.Disks.{NamedDisk}
 use Rattle.fc_kept.specs.Images.{kept_in}
-use Rattle.fc_kept.specs.OneGrain.{Another}
-use Rattle.fc_kept.specs.Recoverable.{Recoverable}
 use Rattle.fc_legal.specs.Added.{IsOf}
+use Rattle.fc_legal.specs.Agenda.{Agenda, Session, session_rules}
 use Rattle.fc_legal.specs.Legal.{IsLegal}
 use Rattle.fc_legal.specs.Run.{IsPartialRun, IsRun, WantsMore}
 use Rattle.fc_legal.specs.Whole.{Whole}
 use Rattle.fc_mdisk.specs.Disk.{DiskState}
+use Rattle.fc_mdisk.specs.Disks.{calls_of, faults_of}
+use Rattle.fc_noted.specs.Stopping.{IsAskedSoon}
 use Rattle.fc_owner.specs.FirstTold.{first_told}
 use Rattle.fc_run.specs.Input.{Gave, IsAtEnd, OfFirstTaken, input_limit}
+use Rattle.fc_stopped.specs.Ending.{all_disks}
 use Rattle.fc_stopped.specs.Reading.{stop_reading}
 use Rattle.fc_recovery_text.specs.Recovering.{IsImageText}
 use Rattle.fc_recovery_text.specs.Text.{no_image}
 use Rattle.fc_stopped.specs.Text.{far_text}
 use Rattle.fc_stopped.specs.declared.far.Far.{Far}
 use Rattle.fc_stopped.specs.declared.far.Far.TheVariants.{ToEnd, ToCall}
+use Rattle.law_noted.specs.One.{IsSafe}
 
 -- ---- the lines
 
@@ -40,10 +44,15 @@ AnswersAll call last lines = IsRun K64 stop_reading (first_told call.disks) (map
 abbrev pub AnswersSome : Call → Whole → List (List ℕ) → Type 0
 AnswersSome call last lines = IsPartialRun K64 stop_reading (first_told call.disks) (map single lines) call.history.entries last
 
+-- The first of these lines are answered, and this is left to be asked.
+abbrev pub AnswersUpTo : Call → Whole → Agenda → List (List ℕ) → Type 0
+AnswersUpTo call last left lines =
+    Goes (session_rules K64 stop_reading) (Session (map single lines)) (first_told call.disks) call.history.entries left last
+
 -- A session that came to its end was read and answered whole; else some first lines are answered, the last maybe in part.
-abbrev pub LinesBy : Far → Call → Whole → List ℕ → Type 0
-LinesBy ToEnd call last bytes = IsAtEnd call.source' × AnswersAll call last (all_lines bytes)
-LinesBy far call last bytes = OfFirstTaken call.source' bytes (AnswersSome call last)
+abbrev pub LinesBy : Far → Call → Whole → Agenda → List ℕ → Type 0
+LinesBy ToEnd call last left bytes = IsAtEnd call.source' × AnswersAll call last (all_lines bytes) × (left ≡ Session [])
+LinesBy far call last left bytes = OfFirstTaken call.source' bytes (AnswersUpTo call last left)
 
 -- The call that failed is the one that was asked for.
 abbrev pub IsAskedFor : ℕ → Far → Type 0
@@ -52,13 +61,18 @@ IsAskedFor number far = Unit {0}
 
 -- ---- what is recovered
 
--- No image, where nothing is answered; or what an image and the disks say, which may be recovered of the history, with the entry that
--- isn't answered, if one was under way.
-pub data IsState (last : Whole) (history : HistoryState) : List ℕ → Type 0 where
-  none : history.entries ≡ [] → IsState last history no_image
+-- The disks counted more faults than are told, or their count stands still.
+abbrev pub DisksFailedMore : Whole → List DiskState → Type 0
+DisksFailedMore last disks = (sum last.faults < faults_of disks) ⊎ (2 ^ 64 - 1 ≤ faults_of disks)
+
+-- No image, where nothing is answered; or what an image and the disks say: that is safe, with what was asked and isn't answered, if
+-- anything was. The disks then come back as they are behind the reads.
+pub data IsState (call : Call) (last : Whole) (left : Agenda) : List ℕ → Type 0 where
+  none : call.history.entries ≡ [] → IsState call last left no_image
   first : (image : MetaImage) (disks : List (List NamedDisk)) (text : List ℕ) (behind : List (List NamedDisk))
-      (least : List Row) (asked : Option Request) (one : Option Another) →
-      Recoverable K64 disks (kept_in image) last least asked one → IsImageText K64 image disks text behind → IsState last history text
+      (least : List Row) (asked : Option Request) → IsAskedSoon K64 last left asked →
+      IsSafe K64 disks (kept_in image) last least asked (DisksFailedMore last (all_disks disks)) →
+      IsImageText K64 image disks text behind → call.disks' ≡ all_disks behind → IsState call last left text
 
 -- ---- what is written
 
@@ -74,8 +88,8 @@ GotHistoryFront call = (behind : List ℕ) × AddsFront call.sink.held (history_
 abbrev pub EndsBy : ℕ → Status → Call → Whole → List ℕ → Type 0
 EndsBy number status.Done call last bytes =
     (length bytes ≤ input_limit)
-    × ((far : Far) × (text : List ℕ) × IsAskedFor number far × LinesBy far call last bytes × IsState last call.history text
-    × GotAll call (history_text call.history ++ far_text far ++ text))
+    × ((far : Far) × (left : Agenda) × (text : List ℕ) × IsAskedFor number far × LinesBy far call last left bytes
+    × IsState call last left text × GotAll call (history_text call.history ++ far_text far ++ text))
 EndsBy number status.ReadFault call last bytes =
     HasRisen call.source.faults call.source'.faults
     × (length bytes ≤ input_limit)
@@ -101,10 +115,11 @@ EndsBy number status.NoMemory call last bytes =
     (length bytes ≤ input_limit) × OfFirstTaken call.source' bytes (AnswersSome call last) × GotHistoryFront call
 EndsBy number other call last bytes = ⊥
 
--- The disks come back, as many of each kind; for want of memory nothing is said of them.
-abbrev pub ComeBack : Status → (old new : List DiskState) → Type 0
-ComeBack status.NoMemory old new = Unit {0}
-ComeBack other old new = pool_of new ≡ pool_of old
+-- The disks come back, as many of each kind, with at least the calls and faults that are told; for want of memory nothing is said of
+-- them.
+abbrev pub ComeBack : Status → (old new : List DiskState) → Whole → Type 0
+ComeBack status.NoMemory old new last = Unit {0}
+ComeBack other old new last = (pool_of new ≡ pool_of old) × (sum last.calls ≤ calls_of new) × (sum last.faults ≤ faults_of new)
 
 -- The history is legal, and all this holds of one thing that is told at its end.
 pub record StopEnds (number : ℕ) (call : Call) : Type 0 where
@@ -114,4 +129,4 @@ pub record StopEnds (number : ℕ) (call : Call) : Type 0 where
   pub bytes : List ℕ
   pub gave : Gave call.source bytes call.source'
   pub ends : EndsBy number call.status call last bytes
-  pub disks : ComeBack call.status call.disks call.disks'
+  pub disks : ComeBack call.status call.disks call.disks' last

@@ -5,6 +5,7 @@ use Rattle.fc_base.specs.declared.ids.GrainNo.{GrainNo}
 use Rattle.fc_base.specs.declared.ids.VolId.{VolId}
 use Rattle.fc_base.specs.declared.request.Move.{Move}
 use Rattle.fc_base.specs.declared.request.Request.{Request}
+use Rattle.fc_base.specs.declared.request.Torn.{Torn as TornGrain}
 use Rattle.fc_base.specs.declared.size.GrainSize.{GrainSize}
 use Rattle.fc_changed.specs.Notes.Note.{Wrote}
 use Rattle.fc_changed.specs.Row.{Row, after_note}
@@ -16,9 +17,7 @@ use Rattle.fc_kept.specs.Actions.{is_unmarked, mark_of}
 use Rattle.fc_kept.specs.Disks.{NamedDisk}
 use Rattle.fc_kept.specs.Kept.{Kept, kept_after, rows_kept}
 use Rattle.fc_kept.specs.Marks.{asked_write, least_entry}
-use Rattle.fc_kept.specs.OneGrain.{Another}
 use Rattle.fc_kept.specs.Prefix.{AreStepsOf}
-use Rattle.fc_kept.specs.Recoverable.{Recoverable}
 use Rattle.fc_legal.specs.Steps.{after_access}
 use Rattle.fc_legal.specs.Whole.{Whole, lanes, part_of_rows, single_lane}
 use Rattle.fc_marks.specs.Marks.{is_at, is_open_any, marked}
@@ -28,6 +27,7 @@ use Rattle.fc_rules.specs.LaneTold.{LaneOf, place_of}
 use Rattle.fc_rules.specs.Steps.{DiskStep}
 use Rattle.fc_steps.specs.StepsEnd.{torn_in}
 use Rattle.fc_steps.specs.declared.stop.Stop.{Stop}
+use Rattle.fc_steps.specs.declared.stop.Stop.TheVariants.{Failed}
 use Rattle.law_agreeing.specs.Agreeing.{AllAgree}
 use Rattle.law_crash.specs.Doing.{Did, Tells, actions_of_steps, noted, number_of}
 use Rattle.law_crash.specs.Law.{Begins}
@@ -35,6 +35,7 @@ use Rattle.law_crash.specs.Leaving.{HaveTheirDisks}
 use Rattle.law_crash.specs.Points.{Point}
 use Rattle.law_crash.specs.Running.{Does, Takes}
 use Rattle.law_noted.specs.Came.{Came}
+use Rattle.law_noted.specs.One.{IsSafe}
 
 -- A step is the next one behind so many.
 pub record IsNext (steps : List DiskStep) (n : ℕ) (step : DiskStep) : Type 0 where
@@ -99,18 +100,22 @@ pub record RowLaw : Type 0 where
 
 -- ---- what a stop finds
 
+-- A step stopped as its write failed, which tore the grain.
+abbrev pub HasTorn : Option Stop → Type 0
+HasTorn stop = (torn : TornGrain) × (stop ≡ Some (Failed (Some torn)))
+
 -- The disks are known but for what is lost by metadata with the record that is due, if one is. Each volume had its disk when the entry
 -- began.
 pub record StopLaw : Type 0 where
   -- nothing is due: also right behind a record, and before the next step
   pub rests : (grain : GrainSize) (w : Whole) (least : List Row) (request : Request) (steps : List DiskStep) (p : Point) (n : ℕ) (stop : Option Stop) (q : Point) (back : List (List NamedDisk)) →
       Begins grain w least request steps p → Came grain w request p.kept.rows steps p n stop None q → AllAgree grain q.kept q.disks back →
-      (one : Option Another) × Recoverable grain back q.kept w least (Some request) one
+      IsSafe grain back q.kept w least (Some request) (HasTorn stop)
   -- the data of a step were written, and their record isn't put
   pub due : (grain : GrainSize) (w : Whole) (least : List Row) (request : Request) (steps : List DiskStep) (p : Point) (n : ℕ) (stop : Option Stop) (r : MetaRecord) (q : Point) (back : List (List NamedDisk)) →
       Begins grain w least request steps p → 0 < lanes w → HaveTheirDisks w p.disks →
       Came grain w request p.kept.rows steps p n stop (Some r) q → AllAgree grain (kept_after q.kept r) q.disks back →
-      (one : Option Another) × Recoverable grain back q.kept w least (Some request) one
+      IsSafe grain back q.kept w least (Some request) (HasTorn stop)
   -- a mark, and the record of a move that copies nothing, leave no grain that was lost
   pub marked : (grain : GrainSize) (k : Kept) (v g : ℕ) (old new : List (List NamedDisk)) → AllAgree grain k old new → AllAgree grain (kept_after k (mark_at v g)) old new
   pub uncopied : (grain : GrainSize) (k : Kept) (m : Move) (old new : List (List NamedDisk)) → AllAgree grain k old new → AllAgree grain (kept_after k (uncopied m)) old new

@@ -1,6 +1,7 @@
 -- How an entry in hand goes on without data, what a stop finds of it, and how it ends.
 use Rattle.std.specs.Prelude.{◌≡◌, ℕ, ◌<◌, ◌≤◌, Bool, true, cond, not, List, [], ◌∷◌, ◌++◌, filter, take, Option, Some, None}
 use Rattle.std.specs.List.{list_any}
+use Rattle.fc_base.specs.Count.{HasRisen}
 use Rattle.fc_base.specs.declared.ids.GrainNo.{GrainNo}
 use Rattle.fc_base.specs.declared.ids.VolId.{VolId}
 use Rattle.fc_base.specs.declared.request.Move.{Move}
@@ -18,9 +19,7 @@ use Rattle.fc_kept.specs.Actions.{is_unmarked}
 use Rattle.fc_kept.specs.Disks.{NamedDisk}
 use Rattle.fc_kept.specs.Kept.{kept_after}
 use Rattle.fc_kept.specs.Marks.{least_entry}
-use Rattle.fc_kept.specs.OneGrain.{Another}
 use Rattle.fc_kept.specs.Prefix.{AreStepsOf}
-use Rattle.fc_kept.specs.Recoverable.{Recoverable}
 use Rattle.fc_lane.specs.Doing.{HasBegun}
 use Rattle.fc_lane.specs.Lane.{IsLaneOf, LaneView, of}
 use Rattle.fc_lane.specs.declared.doing.Doing.{Doing}
@@ -48,6 +47,7 @@ use Rattle.law_crash.specs.Leaving.{HaveTheirDisks}
 use Rattle.law_crash.specs.Points.{Point}
 use Rattle.law_noted.specs.Advancing.{uncopied}
 use Rattle.law_noted.specs.DataSteps.{GoAlong, IsInHand, IsNextStep, copies_nothing}
+use Rattle.law_noted.specs.One.{IsSafe}
 use Rattle.law_noted.specs.Records.{kept_by}
 use Rattle.law_noted.specs.Runs.{HasRun}
 
@@ -101,7 +101,7 @@ pub record GoingLaw : Type 0 where
   -- whatever disks agree with those of its point, by metadata with the record that is due, what stands may be recovered
   pub found : (grain : GrainSize) (w : Whole) (least : List Row) (place : ℕ) (doing : Doing) (begun now : LaneView) (steps : List DiskStep) (before : Point) (due : Option MetaRecord) (q : Point) (back : List (List NamedDisk)) →
       IsInHand grain w least place doing begun now steps before due q → AllAgree grain (kept_by due q.kept) q.disks back →
-      (one : Option Another) × Recoverable grain back q.kept w least (Some (request_of doing.steps.ask)) one
+      IsSafe grain back q.kept w least (Some (request_of doing.steps.ask)) (HasRisen begun.grains.faults now.grains.faults)
   -- the record that is due is put, and changes no rows
   pub put : (grain : GrainSize) (w : Whole) (least : List Row) (place : ℕ) (doing : Doing) (begun now : LaneView) (steps : List DiskStep) (before : Point) (r : MetaRecord) (q : Point) →
       IsInHand grain w least place doing begun now steps before (Some r) q →
@@ -116,7 +116,7 @@ pub record GoingLaw : Type 0 where
   -- the record of a move that copies nothing is put before it: that may be recovered
   pub uncopied_found : (grain : GrainSize) (w : Whole) (least : List Row) (place : ℕ) (doing : Doing) (begun now : LaneView) (steps : List DiskStep) (before q : Point) (m : Move) (back : List (List NamedDisk)) →
       IsInHand grain w least place doing begun now steps before None q → next_of doing.steps ≡ NextMove m → copies_nothing now doing.steps.place m ≡ true → AllAgree grain q.kept q.disks back →
-      (one : Option Another) × Recoverable grain back (kept_after q.kept (uncopied m)) w least (Some (request_of doing.steps.ask)) one
+      IsSafe grain back (kept_after q.kept (uncopied m)) w least (Some (request_of doing.steps.ask)) (HasRisen begun.grains.faults now.grains.faults)
   -- and then it is made, over the same disks
   pub uncopied : (grain : GrainSize) (w : Whole) (least : List Row) (place : ℕ) (doing : Doing) (begun now : LaneView) (steps : List DiskStep) (before q : Point) (m : Move) (end : StepEnd) (doing_new : Doing) (new : LaneView) →
       IsInHand grain w least place doing begun now steps before None q → next_of doing.steps ≡ NextMove m → copies_nothing now doing.steps.place m ≡ true → IsNextStep doing now end doing_new new →
