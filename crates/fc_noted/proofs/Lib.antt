@@ -5,6 +5,7 @@ mod Alone
 mod Beginning
 mod Begun
 mod Copying
+mod Counting
 mod Data
 mod Due
 mod Ended
@@ -27,6 +28,7 @@ mod Putting
 mod Reading
 mod Refusing
 pub mod Resting
+mod Safe
 mod Standing
 mod Stepping
 mod Still
