@@ -1,5 +1,5 @@
 -- A lane's disk of a volume, found by its place, is read.
-use Rattle.std.proofs.Common.{◌≡◌, ℕ, zero, suc, ◌<◌, Bool, true, false, cond, Option, Some, None, List, [], ◌∷◌, length, get_or, set, sym, ap, subst, ◌∙◌, arith}
+use Rattle.std.proofs.Common.{◌≡◌, ℕ, zero, suc, ◌<◌, ◌≤◌, Bool, true, false, cond, Option, Some, None, List, [], ◌∷◌, length, get_or, set, sym, ap, subst, ◌∙◌, arith}
 use Rattle.std.specs.Prelude.{find, position, is_none, is_some, not}
 use Rattle.std.proofs.lemmas.List.{get_or_default}
 use Rattle.std.proofs.lemmas.List.Quantifiers.{position-Some}
@@ -48,8 +48,8 @@ its_grain disks v g bytes at d h e is =
     subst (λ (z : NamedDisk). HasGrain z.disk g bytes) (sym (its_disk disks v g bytes at d h e is)) (record { within = h.within; size = h.size })
 
 pub its_read : (disks after : List NamedDisk) (v g at : ℕ) (d new : NamedDisk) (failed : Bool) (out : List ℕ) → Some at ≡ position (is_of v) disks → d ≡ get_or disks at d →
-    AfterRead d.disk g failed out new.disk → new ≡ record d { disk = new.disk } → after ≡ set disks at new → ReadsDisk disks v g failed out after
-its_read disks after v g at d new failed out e is read own put =
+    AfterRead d.disk g failed out new.disk → d.disk.calls ≤ new.disk.calls → new ≡ record d { disk = new.disk } → after ≡ set disks at new → ReadsDisk disks v g failed out after
+its_read disks after v g at d new failed out e is read calls own put =
     let f = found_at disks v at e in
     let same : d ≡ disk_in disks at = is ∙ get_or_default disks at d no_disk f.there in
     record {
@@ -58,6 +58,7 @@ its_read disks after v g at d new failed out e is read own put =
       found = f.found;
       disk = new.disk;
       read = subst (λ (z : NamedDisk). AfterRead z.disk g failed out new.disk) same read;
+      calls = subst (λ (z : NamedDisk). z.disk.calls ≤ new.disk.calls) same calls;
       is = put ∙ ap (set disks at) (own ∙ ap (λ (z : NamedDisk). record z { disk = new.disk }) same);
     }
 

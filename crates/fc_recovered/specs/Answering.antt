@@ -1,5 +1,5 @@
 -- How a read of a stopped store's volume is answered, and what it does to the disks.
-use Rattle.std.specs.Prelude.{◌≡◌, ℕ, ◌*◌, ◌/◌, ◌%◌, ◌<◌, Bool, true, false, List, length, slice_index_or, slice_set, Some, None}
+use Rattle.std.specs.Prelude.{◌≡◌, ℕ, ◌*◌, ◌/◌, ◌%◌, ◌<◌, ◌≤◌, Bool, true, false, List, length, slice_index_or, slice_set, Some, None}
 use Rattle.fc_base.specs.Grain.{block_bytes}
 use Rattle.fc_base.specs.declared.disk.DiskKind.TheVariants.{Flat}
 use Rattle.fc_base.specs.declared.request.ReadPart.{ReadPart}
@@ -51,13 +51,14 @@ pub record HasDiskGrain (disks : List NamedDisk) (v g bytes : ℕ) : Type 0 wher
   pub within : g < length disk.disk.grains
   pub size : bytes ≡ length (grain_at disk.disk.grains g)
 
--- A lane's disk of a volume was read at a grain, and failed or not.
+-- A lane's disk of a volume was read at a grain, and failed or not. It has no fewer calls.
 pub record ReadsDisk (old : List NamedDisk) (v g : ℕ) (failed : Bool) (out : List ℕ) (new : List NamedDisk) : Type 0 where
   pub place : ℕ
   pub there : place < length old
   pub found : disk_of old v ≡ Some (disk_in old place)
   pub disk : DiskState
   pub read : AfterRead (disk_in old place).disk g failed out disk
+  pub calls : (disk_in old place).disk.calls ≤ disk.calls
   pub is : new ≡ slice_set old place (record (disk_in old place) { disk = disk })
 
 -- A volume's disk in the lane of a grain was read at the grain.

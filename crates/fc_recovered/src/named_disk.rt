@@ -1,6 +1,6 @@
 //! A disk with the volume that it was of.
 
-ghost use Rattle.std.specs.Prelude.{◌≡◌, ◌==◌, Some, None, length, is_err, OnOk, OnErr};
+ghost use Rattle.std.specs.Prelude.{◌≡◌, ◌≤◌, ◌==◌, Some, None, length, is_err, OnOk, OnErr};
 ghost use Rattle.fc_kept.specs.Disks.{is_of, is_kind, is_free};
 ghost use Rattle.fc_mdisk.specs.Disk.{AfterRead, formatted};
 ghost use Rattle.fc_recovered.specs.Answering.{HasGrain};
@@ -85,12 +85,14 @@ impl<D: Mdisk> NamedDisk<D> {
         Ok(())
     }
 
-    /// Reads a grain (`Mdisk::read`).
+    /// Reads a grain (`Mdisk::read`). Its count of calls doesn't fall.
     pub(crate) fn read(&mut self, place: u32, out: &mut [u8]) -> Result<(), Failed>
         requires { HasGrain self.old.disk place (length out.old) }
         ensures disk { AfterRead self.old.disk place (is_err result) out.new self.new.disk }
+        ensures calls { self.old.disk.calls ≤ self.new.disk.calls }
         ensures others { self.new ≡ record self.old { disk = self.new.disk } }
     {
+        let _calls = self.disk.calls();
         self.disk.read(place, out)
     }
 }

@@ -20,5 +20,5 @@ returns g c =
     (is_err c.read.result) c.read.new.out
     (sym c.in-Some.is ∙ c.place_of.ensures)
     (c.index_mut.ensures.value ∙ ap (λ (z : List NamedDisk). get_or z c.in-Some.at c.index_mut.result.now) c.self.view_is)
-    c.read.ensures.disk c.read.ensures.others
+    c.read.ensures.disk c.read.ensures.calls c.read.ensures.others
     (ap (λ (z : List NamedDisk). set z c.in-Some.at c.read.new.self) c.self.view_is)
