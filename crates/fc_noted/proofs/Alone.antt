@@ -1,5 +1,5 @@
 -- A move that is next of an entry under way and copies nothing: its record is put, and then it is made.
-use Rattle.std.proofs.Common.{◌≡◌, ℕ, ◌<◌, ◌≤◌, true, Some, None, List, [], ◌∷◌, length, refl, sym, ap, subst, ◌∙◌, inl, inr}
+use Rattle.std.proofs.Common.{◌≡◌, ℕ, ◌+◌, ◌<◌, ◌≤◌, true, Option, Some, None, List, [], ◌∷◌, length, refl, sym, ap, subst, ◌∙◌, inl, inr}
 use Rattle.std.specs.Prelude.{Err, Result}
 use Rattle.std.proofs.lemmas.Bool.{cases_Bool}
 use Rattle.std.proofs.lemmas.List.{get_or_default}
@@ -32,14 +32,15 @@ use Rattle.fc_meta.specs.Answers.{LeavesEither, found_with}
 use Rattle.fc_meta.specs.States.{IsResting, found}
 use Rattle.fc_meta.specs.declared.meta.Meta.{Meta}
 use Rattle.fc_metadisk.specs.Disk.{LeavesOnly}
-use Rattle.fc_noted.proofs.Data.{doing_inside, hand_none, have_still, matches_none, same_ask, since_then}
+use Rattle.fc_noted.proofs.Data.{hand_none, have_still, matches_none, same_ask, since_then}
 use Rattle.fc_noted.proofs.Fitting.{IsFit, alone_fits}
 use Rattle.fc_noted.proofs.GoingAlong.{matches_along}
-use Rattle.fc_noted.proofs.InHand.{alone_recovered, recovered_of, stands_recovered}
+use Rattle.fc_noted.proofs.InHand.{alone_recovered, doing_counted, now_inside, recovered_of, stands_recovered}
 use Rattle.fc_noted.proofs.Putting.{hold_both, put_keeps, put_leaves, put_says, put_stops, same_stop}
+use Rattle.fc_noted.proofs.Safe.{safe_by}
 use Rattle.fc_noted.specs.Making.{WayMade, done}
 use Rattle.fc_noted.specs.Noted.{IsDoing}
-use Rattle.fc_noted.specs.Stopping.{HasStopped, HoldStill, HoldsTheSame, LeavesRecoverable, MayBeRecovered}
+use Rattle.fc_noted.specs.Stopping.{HasStopped, HoldStill, HoldsTheSame, LeavesRecoverable, MayBeRecovered, MoreFailed}
 use Rattle.fc_noted.specs.declared.noted.Noted.{Noted}
 use Rattle.fc_noted.specs.declared.noted.UnderWay.{UnderWay}
 use Rattle.fc_parts.specs.Law.{IsInVolume}
@@ -52,14 +53,21 @@ use Rattle.fc_steps.specs.UnderWay.{next_of}
 use Rattle.fc_steps.specs.declared.ask.Ask.{Ask}
 use Rattle.fc_steps.specs.declared.body.StepEnd.{StepEnd}
 use Rattle.fc_steps.specs.declared.stepping.Next.TheVariants.{Move as NextMove}
+use Rattle.fc_steps.specs.declared.stop.Stop.{Stop}
+use Rattle.fc_steps.specs.declared.stop.Stop.TheVariants.{Failed}
 use Rattle.fc_store.specs.Stepping.{IsInLane, IsStepOf, lane_in, no_lane}
 use Rattle.law_agreeing.specs.Agreeing.{AllAgree}
 use Rattle.law_crash.specs.Doing.{noted}
 use Rattle.law_noted.proofs.DataInHand.{same_new, same_old}
 use Rattle.law_noted.proofs.HandMoved.{moved_alone}
-use Rattle.law_noted.proofs.HandOn.{alone_found, found as hand_found}
-use Rattle.law_noted.specs.Advancing.{uncopied}
+use Rattle.law_noted.proofs.Finding.{stop_law_holds}
+use Rattle.law_noted.proofs.HandNext.{alone}
+use Rattle.law_noted.proofs.HandOn.{put_alone}
+use Rattle.law_noted.proofs.Losing.{uncopied_agree}
+use Rattle.law_noted.specs.Advancing.{HasTorn, uncopied}
+use Rattle.law_noted.specs.Came.{steps_done}
 use Rattle.law_noted.specs.DataSteps.{GoAlong, IsInHand, copies_nothing}
+use Rattle.law_noted.specs.One.{IsSafe}
 
 -- ---- lanes that hold still
 
@@ -139,7 +147,7 @@ module _ {C D : Type 0} (seen : D → List ℕ) (may_leave : D → List ℕ → 
     -- ---- an error of the disk of metadata
 
     alone_stops : HasStopped may_leave old (record n { meta = meta }) w least
-    alone_stops = put_stops seen may_leave moment left_since counts_now old (record n { meta = meta }) w least d.keeps.image x d.keeps.says run d.keeps.volumes without with_it
+    alone_stops = put_stops seen may_leave moment left_since counts_now old (record n { meta = meta }) w least d.keeps.image x d.keeps.says run d.keeps.volumes (doing_counted seen may_leave old way history w least d) without with_it
 
     failed_leaves : LeavesOnly moment left_since n.meta.disk meta.disk (LeavesRecoverable old (record n { meta = meta }) w least)
     failed_leaves =
@@ -166,7 +174,7 @@ module _ {C D : Type 0} (seen : D → List ℕ) (may_leave : D → List ℕ → 
       stay_new = same_new grain w least way.place way.doing begun now d.steps d.before d.point hand doing then moved.0.under ask_is
 
       inside : way.place < length n.store.lanes
-      inside = doing_inside seen may_leave old way history w least d none
+      inside = now_inside seen may_leave old way history w least d
 
       matches_by : (k : Kept) → GoAlong d.begun.control.grain w way.place d.point.kept k (lane_in n.store way.place).grains (lane_in store way.place).grains d.point.disks d.point.disks →
           MatchAll d.begun.control.grain n.named k store.lanes d.point.disks
@@ -183,17 +191,29 @@ module _ {C D : Type 0} (seen : D → List ℕ) (may_leave : D → List ℕ → 
           let along : GoAlong grain w way.place d.point.kept d.point.kept now.grains then.grains d.point.disks d.point.disks = along_still grain w way.place d.point.kept (kept_after d.point.kept x) now.grains then.grains d.point.disks moved.1 stored_same in
           all_agree grain n.named d.point.kept store.lanes d.point.disks back no_lane (matches_by d.point.kept along) hold
 
+      -- no write failed
+      none_stopped : way.doing.steps.stop ≡ None
+      none_stopped = (alone grain w least way.place way.doing begun now d.steps d.before d.point hand m next copies).stop_is
+
+      safe_still : (k : Kept) (back : List (List NamedDisk)) (stop : Option Stop) → stop ≡ None → IsSafe d.begun.control.grain back k w least (Some (request_of way.doing.steps.ask)) (HasTorn stop) →
+          IsSafe d.begun.control.grain back k w least (Some (request_of way.doing.steps.ask)) (MoreFailed w store.lanes)
+      safe_still k back stop e =
+          safe_by grain back k w least (Some (request_of way.doing.steps.ask)) (HasTorn stop) (MoreFailed w store.lanes) (λ t. absurd (let f : None ≡ Some (Failed (Some t.0)) = sym e ∙ t.1 in cc))
+
       still_without : HoldStill n.store.lanes store.lanes → MayBeRecovered n.store.control.grain n.script n.named store.lanes w least d.keeps.image
       still_without still =
           by_grain store.lanes d.keeps.image
           (recovered_of grain n.script n.named store.lanes w least (request_of way.doing.steps.ask) d.point.kept d.keeps.image d.asked d.keeps.sound d.keeps.kept
-          (λ back hold. hand_found grain w least way.place way.doing begun now d.steps d.before None d.point back hand (still_agree still back hold)))
+          (λ back hold. safe_still d.point.kept back way.doing.steps.stop none_stopped
+          (stop_law_holds.rests grain w least (request_of way.doing.steps.ask) d.steps d.before (steps_done way.doing.steps) way.doing.steps.stop d.point back hand.begins hand.came (still_agree still back hold))))
 
       still_with : HoldStill n.store.lanes store.lanes → MayBeRecovered n.store.control.grain n.script n.named store.lanes w least (after_record d.keeps.image (uncopied m))
       still_with still =
           by_grain store.lanes (after_record d.keeps.image x)
           (recovered_of grain n.script n.named store.lanes w least (request_of way.doing.steps.ask) (kept_after d.point.kept x) (after_record d.keeps.image x) d.asked both.0 both.1
-          (λ back hold. alone_found grain w least way.place way.doing begun now d.steps d.before d.point hand m back next copies (still_agree still back hold)))
+          (λ back hold. safe_still (kept_after d.point.kept x) back None refl
+          (stop_law_holds.rests grain w least (request_of way.doing.steps.ask) d.steps d.before (steps_done way.doing.steps + 1) None (noted x d.point) back hand.begins
+          (put_alone grain w least way.place way.doing begun now d.steps d.before d.point hand m next copies) (uncopied_agree grain d.point.kept m d.point.disks back (still_agree still back hold)))))
 
       abbrev way_new : UnderWay
       way_new = record { place = way.place; doing = doing; due = None }

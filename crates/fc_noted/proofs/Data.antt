@@ -1,5 +1,5 @@
 -- A step of data of the entry that is under way: it is under way behind it too, with the record that is then due.
-use Rattle.std.proofs.Common.{◌≡◌, ◌≢◌, ◌⊎◌, ℕ, ◌<◌, ◌≤◌, Bool, true, false, Option, Some, None, List, length, map, set, All, slice_index_or, slice_set, refl, sym, ap, subst, ◌∙◌, inl, inr, length-set, get_or-set_same, arith}
+use Rattle.std.proofs.Common.{◌≡◌, ◌≢◌, ◌⊎◌, ℕ, ◌<◌, ◌≤◌, Bool, true, false, Option, Some, None, List, length, map, set, All, slice_index_or, slice_set, refl, sym, ap, subst, ◌∙◌, inl, inr, get_or-set_same, arith}
 use Rattle.std.specs.List.{list_any}
 use Rattle.std.proofs.lemmas.List.{get_or_default, set-set}
 use Rattle.std.proofs.lemmas.List.Elements.{All-get_or, All-set}
@@ -19,7 +19,7 @@ use Rattle.fc_lane.specs.declared.doing.Doing.{Doing}
 use Rattle.fc_legal.specs.Agenda.{Asks}
 use Rattle.fc_legal.specs.Whole.{Whole, part_of_rows, lane_at}
 use Rattle.fc_noted.proofs.GoingAlong.{matches_along}
-use Rattle.fc_noted.proofs.InHand.{in_hand}
+use Rattle.fc_noted.proofs.InHand.{in_hand, now_inside}
 use Rattle.fc_noted.proofs.Moments.{doing_found, hold_either, still_leaves}
 use Rattle.fc_noted.specs.Making.{CopiesNext, IsMarkedBy, IsMarkedNext, WayMade, done}
 use Rattle.fc_noted.specs.Noted.{IsDoing, Keeps}
@@ -91,13 +91,12 @@ module _ {C D : Type 0} (seen : D → List ℕ) (may_leave : D → List ℕ → 
   pub hand_none : IsInHand d.begun.control.grain w least way.place way.doing (lane_in d.begun way.place) (lane_in old.store way.place) d.steps d.before None d.point
   hand_none = subst (λ (o : Option MetaRecord). IsInHand grain w least way.place way.doing lane now d.steps d.before o d.point) none (in_hand seen may_leave old way history w least d)
 
-  pub doing_inside : way.place < length old.store.lanes
-  doing_inside =
-      subst (λ (s : StoreView). way.place < length s.lanes) (sym d.since) (subst (λ (k : ℕ). way.place < k) (sym (length-set d.begun.lanes way.place now)) d.inside)
+  inside : way.place < length old.store.lanes
+  inside = now_inside seen may_leave old way history w least d
 
   -- the lane that is seen at its place
   pub seen_lane : (all : List LaneView) (v : LaneView) → all ≡ old.store.lanes → v ≡ slice_index_or all way.place v → v ≡ lane_in old.store way.place
-  seen_lane all v are is = is ∙ (ap (λ (ls : List LaneView). slice_index_or ls way.place v) are ∙ sym (get_or_default old.store.lanes way.place no_lane v doing_inside))
+  seen_lane all v are is = is ∙ (ap (λ (ls : List LaneView). slice_index_or ls way.place v) are ∙ sym (get_or_default old.store.lanes way.place no_lane v inside))
 
   pub rows_are : (lane_in d.begun way.place).changes.rows ≡ part_of_rows (lane_at d.begun.control.grain w way.place) w.rows
   rows_are = let at : IsLaneAt grain w way.place lane = d.told.0.each way.place no_lane d.inside in at.stands.rows
@@ -137,10 +136,10 @@ module _ {C D : Type 0} (seen : D → List ℕ) (may_leave : D → List ℕ → 
           kept = d.keeps.kept;
           rows = d.keeps.rows;
           named = d.keeps.named;
-          volumes = have_still old.disks old.store store way.place doing_inside is (stays.ids ∙ sym stay.ids) (stays.disks ∙ sym stay.disks) d.keeps.volumes;
+          volumes = have_still old.disks old.store store way.place inside is (stays.ids ∙ sym stay.ids) (stays.disks ∙ sym stay.disks) d.keeps.volumes;
           matches = subst (λ (ls : List LaneView). MatchAll grain old.named (kept_by due d.point.kept) ls disks) (sym (ap (λ (s : StoreView). s.lanes) is))
               (matches_along grain w way.place old.named d.point.kept (kept_by due d.point.kept) old.store.lanes now (lane_in store way.place) d.point.disks disks
-              (λ e. get_or_default old.store.lanes way.place e no_lane doing_inside) along (stays.disks ∙ sym stay.disks) matches_none);
+              (λ e. get_or_default old.store.lanes way.place e no_lane inside) along (stays.disks ∙ sym stay.disks) matches_none);
         }
 
     doing_on : IsDoing seen may_leave new way_new history w least

@@ -17,7 +17,7 @@ use Rattle.fc_meta.specs.States.{IsResting, found}
 use Rattle.fc_meta.specs.declared.meta.Meta.{Meta}
 use Rattle.fc_metadisk.specs.Disk.{LeavesOnly}
 use Rattle.fc_noted.proofs.Fitting.{IsFit, due_fits}
-use Rattle.fc_noted.proofs.InHand.{in_hand, put_recovered, stands_recovered}
+use Rattle.fc_noted.proofs.InHand.{doing_counted, in_hand, put_recovered, stands_recovered}
 use Rattle.fc_noted.proofs.Putting.{hold_both, put_doing, put_keeps, put_leaves, put_says, put_stops, same_stop}
 use Rattle.fc_noted.specs.Making.{WayMade, done}
 use Rattle.fc_noted.specs.Noted.{IsDoing}
@@ -84,7 +84,7 @@ module _ {C D : Type 0} (seen : D → List ℕ) (may_leave : D → List ℕ → 
 
     -- or it stopped
     due_stops : HasStopped may_leave old (record n { meta = meta }) w least
-    due_stops = put_stops seen may_leave moment left_since counts_now old (record n { meta = meta }) w least d.keeps.image x d.keeps.says run d.keeps.volumes without with_it
+    due_stops = put_stops seen may_leave moment left_since counts_now old (record n { meta = meta }) w least d.keeps.image x d.keeps.says run d.keeps.volumes (doing_counted seen may_leave old way history w least d) without with_it
 
     failed_leaves : LeavesOnly moment left_since n.meta.disk meta.disk (LeavesRecoverable old (record n { meta = meta }) w least)
     failed_leaves =

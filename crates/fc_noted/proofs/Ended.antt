@@ -27,15 +27,18 @@ use Rattle.fc_marks.specs.declared.error.NotedStop.{NotedStop}
 use Rattle.fc_marks.specs.declared.error.NotedStop.TheVariants.{LogFull, NoMemory as WantsMemory}
 use Rattle.fc_marks.specs.declared.marks.Mark.{Mark}
 use Rattle.fc_metadisk.specs.Disk.{LeavesOnly}
-use Rattle.fc_noted.proofs.Data.{doing_inside, hand_none, matches_none, since_then}
+use Rattle.fc_noted.proofs.Data.{hand_none, matches_none, since_then}
+use Rattle.fc_noted.proofs.Failing.{failed_same}
 use Rattle.fc_noted.proofs.Finishing.{is_right, rows, runs, store_stands}
 use Rattle.fc_noted.proofs.Holding.{HoldSame, have_same, match_same, one_same}
-use Rattle.fc_noted.proofs.InHand.{recovered_of}
+use Rattle.fc_noted.proofs.InHand.{doing_counted, now_inside, recovered_of, safe}
 use Rattle.fc_noted.proofs.Moments.{doing_found, hold_either, still_leaves}
 use Rattle.fc_noted.proofs.Putting.{same_stop}
+use Rattle.fc_noted.proofs.Rising.{counted_same}
+use Rattle.fc_noted.proofs.Safe.{safe_by}
 use Rattle.fc_noted.specs.Making.{GoesBehind, WayMade}
 use Rattle.fc_noted.specs.Noted.{IsAtBy, IsDoing, IsNotedAt, Keeps, Logs}
-use Rattle.fc_noted.specs.Stopping.{HasStopped, LeavesRecoverable, MayBeRecovered}
+use Rattle.fc_noted.specs.Stopping.{AreCounted, HasStopped, LeavesRecoverable, MayBeRecovered, MoreFailed}
 use Rattle.fc_noted.specs.declared.noted.Noted.{Noted}
 use Rattle.fc_noted.specs.declared.noted.UnderWay.{UnderWay}
 use Rattle.fc_script.specs.Asking.{Fits, IsAnswer, IsLeft}
@@ -127,10 +130,13 @@ module _ {C D : Type 0} (seen : D → List ℕ) (may_leave : D → List ℕ → 
     step = is_right seen may_leave old way history w least d none over entry then x f
 
     hold_same : HoldSame n.store.lanes store.lanes
-    hold_same = one_same n.store store way.place is grains (doing_inside seen may_leave old way history w least d none)
+    hold_same = one_same n.store store way.place is grains (now_inside seen may_leave old way history w least d)
 
     volumes : HaveVolumes n.disks store
     volumes = have_same n.disks n.store store (ap (λ (s : StoreView). s.control) is) hold_same d.keeps.volumes
+
+    counted : AreCounted w store.lanes
+    counted = counted_same w n.store.lanes store.lanes hold_same (doing_counted seen may_leave old way history w least d)
 
     matches : MatchAll d.begun.control.grain n.named d.point.kept store.lanes d.point.disks
     matches = match_same n.store.lanes store.lanes hold_same grain n.named d.point.kept d.point.disks (matches_none seen may_leave old way history w least d none)
@@ -143,8 +149,10 @@ module _ {C D : Type 0} (seen : D → List ℕ) (may_leave : D → List ℕ → 
     found_over : MayBeRecovered d.begun.control.grain n.script n.named store.lanes w least d.keeps.image
     found_over =
         recovered_of grain n.script n.named store.lanes w least (request_of way.doing.steps.ask) d.point.kept d.keeps.image d.asked d.keeps.sound d.keeps.kept
-        (λ back hold. hand_found grain w least way.place way.doing (lane_in d.begun way.place) (lane_in n.store way.place) d.steps d.before None d.point back hand
-        (all_agree grain n.named d.point.kept store.lanes d.point.disks back no_lane matches hold))
+        (λ back hold. safe_by grain back d.point.kept w least (Some (request_of way.doing.steps.ask)) (MoreFailed w n.store.lanes) (MoreFailed w store.lanes) (failed_same w n.store.lanes store.lanes hold_same)
+        (safe seen may_leave old way history w least d d.point.kept back
+        (hand_found grain w least way.place way.doing (lane_in d.begun way.place) (lane_in n.store way.place) d.steps d.before None d.point back hand
+        (all_agree grain n.named d.point.kept store.lanes d.point.disks back no_lane matches hold))))
 
     by_grain : (c : ControlState) → c ≡ d.begun.control → MayBeRecovered c.grain n.script n.named store.lanes w least d.keeps.image
     by_grain c e = subst (λ (z : ControlState). MayBeRecovered z.grain n.script n.named store.lanes w least d.keeps.image) (sym e) found_over
@@ -160,7 +168,7 @@ module _ {C D : Type 0} (seen : D → List ℕ) (may_leave : D → List ℕ → 
           (hold_either n.store store n.script n.named w least d.keeps.image (ap (λ (s : StoreView). s.control.grain) is) (doing_found seen may_leave old way history w least d) (by_grain store.control control_is))
 
       stops : HasStopped may_leave old new w least
-      stops = record { volumes = volumes; leaves = λ c left. (d.keeps.image, ap recovered (d.keeps.rests.durable c left) ∙ d.keeps.says, by_grain n.store.control control_old) }
+      stops = record { volumes = volumes; counted = counted; leaves = λ c left. (d.keeps.image, ap recovered (d.keeps.rests.durable c left) ∙ d.keeps.says, by_grain n.store.control control_old) }
 
       -- ---- it is logged
 

@@ -178,7 +178,7 @@ self_agree grain k disks = record { count = refl; each = λ i il. record { named
 module _ (grain : GrainSize) (w : Whole) (least : List Row) (place : ℕ) (doing : Doing) (begun now : LaneView) (steps : List DiskStep) (before : Point) (due : Option MetaRecord) (q : Point)
     (h : IsInHand grain w least place doing begun now steps before due q) where
   pub sound_here : IsSoundKept q.kept
-  sound_here = (found grain w least place doing begun now steps before due q q.disks h (self_agree grain (kept_by due q.kept) q.disks)).1.says.sound
+  sound_here = (found grain w least place doing begun now steps before due q q.disks h (self_agree grain (kept_by due q.kept) q.disks)).recoverable.says.sound
 
   pub tables_here : q.kept.tables ≡ w.books.tables
   tables_here =
@@ -224,5 +224,5 @@ module _ (grain : GrainSize) (w : Whole) (least : List Row) (place : ℕ) (doing
       let a : IsAlone grain w least place doing begun now steps before q h m = alone grain w least place doing begun now steps before q h m e copies in
       record {
         fits = fits_by a.step a.next.front a.next.back m.volume.0 m.grain.0 a.next.split a.volume a.number;
-        sound = (alone_found grain w least place doing begun now steps before q h m q.disks e copies (self_agree grain q.kept q.disks)).1.says.sound;
+        sound = (alone_found grain w least place doing begun now steps before q h m q.disks e copies (self_agree grain q.kept q.disks)).recoverable.says.sound;
       }

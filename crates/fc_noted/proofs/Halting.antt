@@ -1,27 +1,35 @@
 -- Where a step stopped: the first entries of its line are logged, and with them what is told may be recovered.
 use Rattle.std.proofs.Common.{◌≡◌, ℕ, ◌≤◌, Bool, Option, Some, None, List, length, false, Err, refl, sym, ap, subst, ◌∙◌, arith}
 use Rattle.std.specs.Prelude.{IsErrOf}
-use Rattle.fc_agenda.specs.Goes.{GoesAsking, GoesSome}
+use Rattle.fc_agenda.specs.Goes.{Goes, GoesAsking}
+use Rattle.fc_base.specs.declared.request.Request.{Request}
 use Rattle.fc_base.specs.declared.size.GrainSize.{GrainSize}
 use Rattle.fc_changed.specs.Row.{Row}
 use Rattle.fc_entry.specs.HistoryState.{HistoryState}
 use Rattle.fc_format.specs.Halves.{recovered}
-use Rattle.fc_kept.specs.Images.{kept_in}
-use Rattle.fc_kept.specs.Recoverable.{Recoverable}
 use Rattle.fc_legal.specs.Added.{Adds, IsOf}
 use Rattle.fc_legal.specs.Agenda.{Agenda, Reading, session_rules}
 use Rattle.fc_legal.specs.Whole.{Whole}
 use Rattle.fc_marks.specs.declared.error.NotedStop.TheVariants.{LogFull, NoMemory, MetaFailed, MetaFull}
 use Rattle.fc_marks.specs.declared.error.NotedStop.{NotedStop}
+use Rattle.fc_noted.proofs.Counting.{has_counted}
+use Rattle.fc_noted.proofs.InHand.{doing_counted}
 use Rattle.fc_noted.proofs.Lines.{AllHalt, Brings, Comes, brings_still}
 use Rattle.fc_noted.proofs.Moments.{doing_found, resting_found}
-use Rattle.fc_noted.proofs.Resting.{rests}
+use Rattle.fc_noted.proofs.Resting.{rests_safe}
 use Rattle.fc_noted.specs.Making.{StepMade}
 use Rattle.fc_noted.specs.Noted.{IsAt, IsAtBy, IsNotedAt}
-use Rattle.fc_noted.specs.Stopping.{AsksSome, Halts, HasStopped, Leaves}
+use Rattle.fc_noted.specs.Stopping.{AsksSome, Halts, HasStopped, IsAskedOf, IsAskedSoon, Leaves, MayBeRecovered, MoreFailed}
 use Rattle.fc_noted.specs.declared.noted.Noted.{Noted}
 use Rattle.fc_noted.specs.declared.noted.UnderWay.{UnderWay}
+use Rattle.fc_script.specs.Passage.{GoesOn}
 use Rattle.fc_script.specs.Script.{agenda_of}
+use Rattle.fc_script.specs.declared.script.Script.{Script}
+
+-- what a script that is reached asks next is asked soon
+asked_soon : (grain : GrainSize) (w : Whole) (a : Agenda) (asking : Script) (o : Option Request) → GoesOn grain w a (agenda_of grain asking) → IsAskedOf grain w o asking → IsAskedSoon grain w a o
+asked_soon grain w a asking None goes asked = tt
+asked_soon grain w a asking (Some r) goes asked = (agenda_of grain asking, goes, asked)
 
 module _ {C D : Type 0} (seen : D → List ℕ) (may_leave : D → List ℕ → Type 0) (moment : D → ℕ) (left_since : D → ℕ → List ℕ → Type 0) where
   of_by : (o : Option UnderWay) (n : Noted C D) (history : HistoryState) (w : Whole) (least : List Row) → IsAtBy seen may_leave o n history w least → IsOf w history
@@ -38,28 +46,24 @@ module _ {C D : Type 0} (seen : D → List ℕ) (may_leave : D → List ℕ → 
     abbrev To : Whole → Whole → Type 0
     To w m = Brings old.store.control.grain (agenda_of old.store.control.grain old.script) w (agenda_of old.store.control.grain mid.script) m before between
 
-    leaves_there : (m : Whole) (least : List Row) → HasStopped may_leave mid new m least → Leaves old.store.control.grain may_leave new m
+    -- what the script is left to ask
+    abbrev left : Agenda
+    left = agenda_of old.store.control.grain mid.script
+
+    leaves_there : (m : Whole) (least : List Row) → HasStopped may_leave mid new m least → Leaves old.store.control.grain may_leave new m (agenda_of old.store.control.grain mid.script)
     leaves_there m least s =
         record {
           volumes = s.volumes;
+          counted = s.counted;
           found = λ c may.
-              let l = s.leaves c may in (
-                l.0,
-                l.1,
-                l.2.sound,
-                λ back hold.
-                    let r = l.2.found back hold in
-                    (least, l.2.request, r.0, subst (λ (g : GrainSize). Recoverable g back (kept_in l.0) m least l.2.request r.0) comes.grain r.1),
-              );
+              let l = s.leaves c may in
+              let r : MayBeRecovered grain mid.script new.named new.store.lanes m least l.0 = subst (λ (g : GrainSize). MayBeRecovered g mid.script new.named new.store.lanes m least l.0) comes.grain l.2 in
+              (l.0, l.1, r.sound, λ back hold. (least, r.request, asked_soon grain m left r.asking r.request r.reached r.asked, r.found back hold));
         }
 
-    some_there : (w m : Whole) → To w m → after ≡ between → (read : Reading) → Adds before after (λ more. GoesSome (session_rules old.store.control.grain read) (agenda_of old.store.control.grain old.script) w more m)
-    some_there w m to same read =
-        record {
-          more = to.more;
-          entries = ap (λ (h : HistoryState). h.entries) same ∙ to.entries;
-          are = record { end = agenda_of grain mid.script; goes = to.are read };
-        }
+    up_to_there : (w m : Whole) → To w m → after ≡ between → (read : Reading) →
+        Adds before after (λ more. Goes (session_rules old.store.control.grain read) (agenda_of old.store.control.grain old.script) w more (agenda_of old.store.control.grain mid.script) m)
+    up_to_there w m to same read = record { more = to.more; entries = ap (λ (h : HistoryState). h.entries) same ∙ to.entries; are = to.are read }
 
     asking_there : (w m : Whole) → To w m → after ≡ between → AsksSome mid.store.control.grain mid.script m → (read : Reading) →
         Adds before after (λ more. GoesAsking (session_rules old.store.control.grain read) (agenda_of old.store.control.grain old.script) w more m)
@@ -84,10 +88,10 @@ module _ {C D : Type 0} (seen : D → List ℕ) (may_leave : D → List ℕ → 
         (IsErrOf {T = Bool} (Err stop) LogFull → AsksSome mid.store.control.grain mid.script m) → after ≡ between → HasStopped may_leave mid new m least →
         Halts old.store.control.grain may_leave read stop (agenda_of old.store.control.grain old.script) new w before after
     halted_by LogFull read w m least to is full asks same s =
-        (full_there same comes.can.room (full refl), (m, still_of m same is, leaves_there m least s, asking_there w m to same (asks refl) read))
-    halted_by NoMemory read w m least to is full asks same s = (m, still_of m same is, leaves_there m least s, some_there w m to same read)
-    halted_by MetaFailed read w m least to is full asks same s = (m, still_of m same is, leaves_there m least s, some_there w m to same read)
-    halted_by MetaFull read w m least to is full asks same s = (m, still_of m same is, leaves_there m least s, some_there w m to same read)
+        (full_there same comes.can.room (full refl), (m, still_of m same is, (left, leaves_there m least s), asking_there w m to same (asks refl) read))
+    halted_by NoMemory read w m least to is full asks same s = (m, left, still_of m same is, leaves_there m least s, up_to_there w m to same read)
+    halted_by MetaFailed read w m least to is full asks same s = (m, left, still_of m same is, leaves_there m least s, up_to_there w m to same read)
+    halted_by MetaFull read w m least to is full asks same s = (m, left, still_of m same is, leaves_there m least s, up_to_there w m to same read)
 
     pub halted : (stop : NotedStop) → StepMade seen may_leave moment left_since (Err stop) mid new between after →
         (IsErrOf {T = Bool} (Err stop) LogFull → (m : Whole) (least : List Row) → IsAt seen may_leave mid between m least → AsksSome mid.store.control.grain mid.script m) → AllHalt seen may_leave old before stop new after
@@ -110,11 +114,13 @@ module _ {C D : Type 0} (seen : D → List ℕ) (may_leave : D → List ℕ → 
       let few : w.entries ≤ 262144 = subst (λ (k : ℕ). k ≤ 262144) (sym at.told.1.entries) room in
       record {
         volumes = at.keeps.volumes;
+        counted = has_counted n.store w at.told.0 few;
         leaves = λ c may. (at.keeps.image, ap recovered (at.keeps.rests.durable c may) ∙ at.keeps.says, resting_found seen may_leave n history w least at few);
       }
   stops_by (Some way) n history w least d room =
       record {
         volumes = d.keeps.volumes;
+        counted = doing_counted seen may_leave n way history w least d;
         leaves = λ c may. (d.keeps.image, ap recovered (d.keeps.rests.durable c may) ∙ d.keeps.says, doing_found seen may_leave n way history w least d);
       }
 
@@ -124,18 +130,19 @@ module _ {C D : Type 0} (seen : D → List ℕ) (may_leave : D → List ℕ → 
       halted_by old mid before between comes (record mid { live = false }) between NoMemory read w m.0 m.1 m.3 (of_by mid.under_way mid between m.0 m.1 m.2) (λ full. absurd cc) (λ full. absurd cc) refl
       (stops_by mid.under_way mid between m.0 m.1 m.2 comes.can.room)
 
--- ---- between two entries
+-- ---- between two entries, whatever is asked
 
-pub leaves_resting : {C D : Type 0} (seen : D → List ℕ) (may_leave : D → List ℕ → Type 0) (n : Noted C D) (history : HistoryState) (w : Whole) (least : List Row) → IsNotedAt seen may_leave n history w least →
-    length history.entries ≤ 262144 → Leaves n.store.control.grain may_leave n w
-leaves_resting seen may_leave n history w least at room =
+pub leaves_resting : {C D : Type 0} (seen : D → List ℕ) (may_leave : D → List ℕ → Type 0) (n : Noted C D) (history : HistoryState) (w : Whole) (least : List Row) (a : Agenda) → IsNotedAt seen may_leave n history w least →
+    length history.entries ≤ 262144 → Leaves n.store.control.grain may_leave n w a
+leaves_resting seen may_leave n history w least a at room =
     let few : w.entries ≤ 262144 = subst (λ (k : ℕ). k ≤ 262144) (sym at.told.1.entries) room in
     record {
       volumes = at.keeps.volumes;
+      counted = has_counted n.store w at.told.0 few;
       found = λ c may. (
         at.keeps.image,
         ap recovered (at.keeps.rests.durable c may) ∙ at.keeps.says,
         at.keeps.sound,
-        λ back hold. (least, None, None, rests seen may_leave n history w least None at back few hold),
+        λ back hold. (least, None, tt, rests_safe seen may_leave n history w least None (MoreFailed w n.store.lanes) at back few hold),
       );
     }

@@ -1,8 +1,9 @@
 -- The entry that is under way in a noted store is in hand, and what stands on metadata's disk may be recovered with whatever disks the
 -- lanes give back: between its steps, in them, and in the calls that put a record.
-use Rattle.std.proofs.Common.{◌≡◌, ℕ, ◌<◌, ◌≤◌, true, Option, Some, None, List, sym, subst, arith}
+use Rattle.std.proofs.Common.{◌≡◌, ℕ, ◌<◌, ◌≤◌, true, Option, Some, None, List, length, sym, subst, length-set, arith}
 use Rattle.std.specs.List.{list_any}
 use Rattle.fc_agenda.specs.Goes.{stays}
+use Rattle.fc_base.specs.Count.{HasRisen}
 use Rattle.fc_base.specs.declared.request.Move.{Move}
 use Rattle.fc_base.specs.declared.request.Request.{Request}
 use Rattle.fc_base.specs.declared.request.WritePart.{WritePart}
@@ -18,19 +19,21 @@ use Rattle.fc_kept.specs.Actions.{is_unmarked}
 use Rattle.fc_kept.specs.Disks.{NamedDisk}
 use Rattle.fc_kept.specs.Images.{kept_in}
 use Rattle.fc_kept.specs.Kept.{Kept, kept_after}
-use Rattle.fc_kept.specs.OneGrain.{Another}
-use Rattle.fc_kept.specs.Recoverable.{Recoverable}
 use Rattle.fc_kept.specs.Sound.{IsSoundImage}
 use Rattle.fc_lane.specs.Lane.{LaneView}
 use Rattle.fc_legal.specs.Agenda.{Asks}
 use Rattle.fc_legal.specs.Whole.{Whole}
+use Rattle.fc_noted.proofs.Counting.{counted_in_lane, has_counted}
+use Rattle.fc_noted.proofs.Failing.{more_failed}
+use Rattle.fc_noted.proofs.Rising.{rising}
+use Rattle.fc_noted.proofs.Safe.{safe_by}
 use Rattle.fc_noted.specs.Noted.{IsDoing}
-use Rattle.fc_noted.specs.Stopping.{MayBeRecovered}
+use Rattle.fc_noted.specs.Stopping.{AreCounted, MayBeRecovered, MoreFailed}
 use Rattle.fc_noted.specs.declared.noted.Noted.{Noted}
 use Rattle.fc_noted.specs.declared.noted.UnderWay.{UnderWay}
 use Rattle.fc_script.specs.Script.{agenda_of}
 use Rattle.fc_script.specs.declared.script.Script.{Script}
-use Rattle.fc_stands.specs.Store.{IsLaneAt}
+use Rattle.fc_stands.specs.Store.{IsLaneAt, StoreView}
 use Rattle.fc_steps.specs.Asking.{request_of}
 use Rattle.fc_steps.specs.UnderWay.{next_of}
 use Rattle.fc_steps.specs.declared.stepping.Next.TheVariants.{Move as NextMove, Own}
@@ -39,6 +42,7 @@ use Rattle.law_agreeing.specs.Agreeing.{AllAgree}
 use Rattle.law_crash.specs.Doing.{noted}
 use Rattle.law_noted.specs.Advancing.{uncopied}
 use Rattle.law_noted.specs.DataSteps.{IsInHand, copies_nothing}
+use Rattle.law_noted.specs.One.{IsSafe}
 use Rattle.law_noted.specs.Records.{kept_by}
 use Rattle.law_noted.proofs.HandOn.{alone_found, begins, found, put, put_mark}
 use Rattle.law_noted.proofs.Losing.{marked_agree}
@@ -46,11 +50,11 @@ use Rattle.law_noted.proofs.Losing.{marked_agree}
 -- ---- an image that is found
 
 -- whatever disks are given back
-abbrev pub Found : GrainSize → Whole → List Row → Request → Kept → List (List NamedDisk) → Type 0
-Found grain w least r k back = (one : Option Another) × Recoverable grain back k w least (Some r) one
+abbrev pub Found : GrainSize → Whole → List Row → Request → List LaneView → Kept → List (List NamedDisk) → Type 0
+Found grain w least r lanes k back = IsSafe grain back k w least (Some r) (MoreFailed w lanes)
 
 pub recovered_of : (grain : GrainSize) (script : Script) (named : ℕ) (lanes : List LaneView) (w : Whole) (least : List Row) (r : Request) (k : Kept) (image : MetaImage) → Asks grain (agenda_of grain script) w (0, r) → IsSoundImage image →
-    kept_in image ≡ k → ((back : List (List NamedDisk)) → HoldAllOf named lanes back → Found grain w least r k back) → MayBeRecovered grain script named lanes w least image
+    kept_in image ≡ k → ((back : List (List NamedDisk)) → HoldAllOf named lanes back → Found grain w least r lanes k back) → MayBeRecovered grain script named lanes w least image
 recovered_of grain script named lanes w least r k image asks sound says f =
     record {
       request = Some r;
@@ -58,7 +62,7 @@ recovered_of grain script named lanes w least r k image asks sound says f =
       reached = λ read. stays;
       asked = asks;
       sound = sound;
-      found = λ back hold. subst (λ (z : Kept). Found grain w least r z back) (sym says) (f back hold);
+      found = λ back hold. subst (λ (z : Kept). Found grain w least r lanes z back) (sym says) (f back hold);
     }
 
 module _ {C D : Type 0} (seen : D → List ℕ) (may_leave : D → List ℕ → Type 0) (n : Noted C D) (way : UnderWay) (history : HistoryState) (w : Whole) (least : List Row) (d : IsDoing seen may_leave n way history w least) where
@@ -80,6 +84,15 @@ module _ {C D : Type 0} (seen : D → List ℕ) (may_leave : D → List ℕ → 
   few : w.entries ≤ 262144
   few = omega (arith, d.few)
 
+  pub now_inside : way.place < length n.store.lanes
+  now_inside = subst (λ (s : StoreView). way.place < length s.lanes) (sym d.since) (subst (λ (k : ℕ). way.place < k) (sym (length-set d.begun.lanes way.place now)) d.inside)
+
+  -- what is told was counted, by the entry too
+  pub doing_counted : AreCounted w n.store.lanes
+  doing_counted =
+      let rose = rising lane way.doing now d.under in
+      subst (λ (s : StoreView). AreCounted w s.lanes) (sym d.since) (counted_in_lane w d.begun.lanes way.place now no_lane (has_counted d.begun w d.told.0 few) rose.0 rose.1)
+
   pub in_hand : IsInHand d.begun.control.grain w least way.place way.doing (lane_in d.begun way.place) (lane_in n.store way.place) d.steps d.before way.due d.point
   in_hand = record {
     decisions = d.told.0.decisions;
@@ -93,6 +106,14 @@ module _ {C D : Type 0} (seen : D → List ℕ) (may_leave : D → List ℕ → 
     came = d.came;
   }
 
+  -- where a write failed, more failed than is told
+  pub safe : (k : Kept) (back : List (List NamedDisk)) →
+      IsSafe d.begun.control.grain back k w least (Some (request_of way.doing.steps.ask)) (HasRisen (lane_in d.begun way.place).grains.faults (lane_in n.store way.place).grains.faults) →
+      IsSafe d.begun.control.grain back k w least (Some (request_of way.doing.steps.ask)) (MoreFailed w n.store.lanes)
+  safe k back =
+      safe_by grain back k w least (Some r) (HasRisen lane.grains.faults now.grains.faults) (MoreFailed w n.store.lanes)
+      (more_failed grain w n.store.lanes way.place lane no_lane at_lane now_inside)
+
   agrees : (back : List (List NamedDisk)) → HoldAllOf n.named n.store.lanes back → AllAgree grain (kept_by way.due d.point.kept) d.point.disks back
   agrees back hold = all_agree grain n.named (kept_by way.due d.point.kept) n.store.lanes d.point.disks back no_lane d.keeps.matches hold
 
@@ -101,7 +122,7 @@ module _ {C D : Type 0} (seen : D → List ℕ) (may_leave : D → List ℕ → 
   pub stands_recovered : MayBeRecovered d.begun.control.grain n.script n.named n.store.lanes w least d.keeps.image
   stands_recovered =
       recovered_of grain n.script n.named n.store.lanes w least r d.point.kept d.keeps.image d.asked d.keeps.sound d.keeps.kept
-      (λ back hold. found grain w least way.place way.doing lane now d.steps d.before way.due d.point back in_hand (agrees back hold))
+      (λ back hold. safe d.point.kept back (found grain w least way.place way.doing lane now d.steps d.before way.due d.point back in_hand (agrees back hold)))
 
   -- ---- with the record that is due
 
@@ -110,7 +131,8 @@ module _ {C D : Type 0} (seen : D → List ℕ) (may_leave : D → List ℕ → 
       let h : IsInHand grain w least way.place way.doing lane now d.steps d.before (Some x) d.point = subst (λ (o : Option MetaRecord). IsInHand grain w least way.place way.doing lane now d.steps d.before o d.point) due in_hand in
       let after = put grain w least way.place way.doing lane now d.steps d.before x d.point h in
       recovered_of grain n.script n.named n.store.lanes w least r (kept_after d.point.kept x) image d.asked sound says
-      (λ back hold. found grain w least way.place way.doing lane now d.steps d.before None (noted x d.point) back after.0 (subst (λ (o : Option MetaRecord). AllAgree grain (kept_by o d.point.kept) d.point.disks back) due (agrees back hold)))
+      (λ back hold. safe (kept_after d.point.kept x) back
+      (found grain w least way.place way.doing lane now d.steps d.before None (noted x d.point) back after.0 (subst (λ (o : Option MetaRecord). AllAgree grain (kept_by o d.point.kept) d.point.disks back) due (agrees back hold))))
 
   -- ---- where none is due
 
@@ -128,11 +150,12 @@ module _ {C D : Type 0} (seen : D → List ℕ) (may_leave : D → List ℕ → 
         let mark : MetaRecord = Changing part.volume way.doing.steps.grain in
         let after = put_mark grain w least way.place way.doing lane now d.steps d.before d.point hand_none part e due in
         recovered_of grain n.script n.named n.store.lanes w least r (kept_after d.point.kept mark) image d.asked sound says
-        (λ back hold. found grain w least way.place way.doing lane now d.steps d.before None (noted mark d.point) back after (marked_agree grain d.point.kept part.volume.0 way.doing.steps.grain.0 d.point.disks back (agrees_none back hold)))
+        (λ back hold. safe (kept_after d.point.kept mark) back
+        (found grain w least way.place way.doing lane now d.steps d.before None (noted mark d.point) back after (marked_agree grain d.point.kept part.volume.0 way.doing.steps.grain.0 d.point.disks back (agrees_none back hold))))
 
     -- the record of a move that copies nothing was put before it
     pub alone_recovered : (m : Move) (image : MetaImage) → next_of way.doing.steps ≡ NextMove m → copies_nothing (lane_in n.store way.place) way.doing.steps.place m ≡ true → IsSoundImage image →
         kept_in image ≡ kept_after d.point.kept (uncopied m) → MayBeRecovered d.begun.control.grain n.script n.named n.store.lanes w least image
     alone_recovered m image e copies sound says =
         recovered_of grain n.script n.named n.store.lanes w least r (kept_after d.point.kept (uncopied m)) image d.asked sound says
-        (λ back hold. alone_found grain w least way.place way.doing lane now d.steps d.before d.point hand_none m back e copies (agrees_none back hold))
+        (λ back hold. safe (kept_after d.point.kept (uncopied m)) back (alone_found grain w least way.place way.doing lane now d.steps d.before d.point hand_none m back e copies (agrees_none back hold)))

@@ -5,10 +5,11 @@ mod Alone
 mod Beginning
 mod Begun
 mod Copying
-mod Counting
+pub mod Counting
 mod Data
 mod Due
 mod Ended
+mod Failing
 mod Filling
 mod Finishing
 mod Fitting
@@ -28,7 +29,8 @@ mod Putting
 mod Reading
 mod Refusing
 pub mod Resting
-mod Safe
+mod Rising
+pub mod Safe
 mod Standing
 mod Stepping
 mod Still

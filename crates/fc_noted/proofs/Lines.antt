@@ -2,7 +2,7 @@
 use Rattle.std.proofs.Common.{◌≡◌, ℕ, ◌≤◌, true, false, Option, Some, None, List, [], ◌∷◌, ◌++◌, length, append_assoc, Result, Ok, refl, sym, ap, subst, ◌∙◌, ◌⊎◌, inl, inr, arith}
 use Rattle.std.proofs.lemmas.List.{append-nil, length-append}
 use Rattle.std.specs.Prelude.{Err, IfErr, OnOk}
-use Rattle.fc_agenda.specs.Goes.{Goes, GoesAsking, GoesSome, GoesToEnd, answers, passes, stays}
+use Rattle.fc_agenda.specs.Goes.{Goes, GoesAsking, GoesToEnd, answers, passes, stays}
 use Rattle.fc_agenda.proofs.Going.{Goes-append}
 use Rattle.fc_base.specs.declared.command.Line.{Line}
 use Rattle.fc_base.specs.declared.fault.WordFault.{WordFault}
@@ -208,10 +208,9 @@ module _ (grain : GrainSize) (read : Reading) (bytes : List ℕ) (w : Whole) (li
         are = record { end = adds.are.end; goes = line_goes adds.are.end adds.more last adds.are.goes; over = adds.are.over };
       }
 
-  line_some : (before after : HistoryState) (last : Whole) → Adds before after (λ more. GoesSome (session_rules grain read) a w more last) →
-      Adds before after (λ more. GoesSome (session_rules grain read) (Session (single bytes ∷ [])) w more last)
-  line_some before after last adds =
-      record { more = adds.more; entries = adds.entries; are = record { end = adds.are.end; goes = line_goes adds.are.end adds.more last adds.are.goes } }
+  line_up_to : (before after : HistoryState) (left : Agenda) (last : Whole) → Adds before after (λ more. Goes (session_rules grain read) a w more left last) →
+      Adds before after (λ more. Goes (session_rules grain read) (Session (single bytes ∷ [])) w more left last)
+  line_up_to before after left last adds = record { more = adds.more; entries = adds.entries; are = line_goes left adds.more last adds.are }
 
   line_asking : (before after : HistoryState) (last : Whole) → Adds before after (λ more. GoesAsking (session_rules grain read) a w more last) →
       Adds before after (λ more. GoesAsking (session_rules grain read) (Session (single bytes ∷ [])) w more last)
@@ -225,9 +224,9 @@ module _ (grain : GrainSize) (read : Reading) (bytes : List ℕ) (w : Whole) (li
   pub line_halts : {C D : Type 0} (may_leave : D → List ℕ → Type 0) (stop : NotedStop) (new : Noted C D) (before after : HistoryState) → Halts grain may_leave read stop a new w before after →
       Halts grain may_leave read stop (Session (single bytes ∷ [])) new w before after
   line_halts may_leave LogFull new before after h = (h.0, (h.1.0, h.1.1, h.1.2, line_asking before after h.1.0 h.1.3))
-  line_halts may_leave NoMemory new before after h = (h.0, h.1, h.2, line_some before after h.0 h.3)
-  line_halts may_leave MetaFailed new before after h = (h.0, h.1, h.2, line_some before after h.0 h.3)
-  line_halts may_leave MetaFull new before after h = (h.0, h.1, h.2, line_some before after h.0 h.3)
+  line_halts may_leave NoMemory new before after h = (h.0, h.1, h.2, h.3, line_up_to before after h.1 h.0 h.4)
+  line_halts may_leave MetaFailed new before after h = (h.0, h.1, h.2, h.3, line_up_to before after h.1 h.0 h.4)
+  line_halts may_leave MetaFull new before after h = (h.0, h.1, h.2, h.3, line_up_to before after h.1 h.0 h.4)
 
 module _ {C D : Type 0} (seen : D → List ℕ) (may_leave : D → List ℕ → Type 0) where
   -- It is answered to its end.

@@ -30,7 +30,7 @@ use Rattle.fc_meta.specs.declared.meta.Meta.{Meta}
 use Rattle.fc_metadisk.specs.Disk.{LeavesOnly}
 use Rattle.fc_noted.proofs.Data.{hand_none, rows_are}
 use Rattle.fc_noted.proofs.Fitting.{IsFit, mark_fits}
-use Rattle.fc_noted.proofs.InHand.{mark_recovered, stands_recovered}
+use Rattle.fc_noted.proofs.InHand.{doing_counted, mark_recovered, stands_recovered}
 use Rattle.fc_noted.proofs.Moments.{doing_found, hold_either, still_leaves}
 use Rattle.fc_noted.proofs.Putting.{hold_both, put_doing, put_keeps, put_leaves, put_says, put_stops, same_stop}
 use Rattle.fc_noted.specs.Making.{WayMade, done}
@@ -131,7 +131,7 @@ module _ {C D : Type 0} (seen : D → List ℕ) (may_leave : D → List ℕ → 
 
     -- or it stopped
     mark_stops : HasStopped may_leave old left w least
-    mark_stops = put_stops seen may_leave moment left_since counts_now old left w least d.keeps.image x d.keeps.says run d.keeps.volumes without with_it
+    mark_stops = put_stops seen may_leave moment left_since counts_now old left w least d.keeps.image x d.keeps.says run d.keeps.volumes (doing_counted seen may_leave old way history w least d) without with_it
 
     failed_leaves : LeavesOnly moment left_since n.meta.disk meta.disk (LeavesRecoverable old left w least)
     failed_leaves = put_leaves seen may_leave moment left_since counts_now old left w least d.keeps.image x d.keeps.says run (hold_both n.store left.store n.script n.named w least d.keeps.image x refl without with_it)
@@ -178,7 +178,13 @@ module _ {C D : Type 0} (seen : D → List ℕ) (may_leave : D → List ℕ → 
         any_moment = λ w least d.
             still_leaves seen may_leave moment left_since only_now old new w least d.keeps.image refl d.keeps.says d.keeps.rests.durable
             (hold_either n.store n.store n.script n.named w least d.keeps.image refl (doing_found seen may_leave old way history w least d) (doing_found seen may_leave old way history w least d));
-        stopped = λ w least d.
-            (refl, record { volumes = d.keeps.volumes; leaves = λ c left. (d.keeps.image, ap recovered (d.keeps.rests.durable c left) ∙ d.keeps.says, doing_found seen may_leave old way history w least d) });
+        stopped = λ w least d. (
+          refl,
+          record {
+            volumes = d.keeps.volumes;
+            counted = doing_counted seen may_leave old way history w least d;
+            leaves = λ c left. (d.keeps.image, ap recovered (d.keeps.rests.durable c left) ∙ d.keeps.says, doing_found seen may_leave old way history w least d);
+          },
+        );
         full = λ f. absurd (other (same_stop stop f));
       })

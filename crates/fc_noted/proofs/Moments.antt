@@ -11,9 +11,9 @@ use Rattle.fc_legal.specs.Whole.{Whole}
 use Rattle.fc_meta.proofs.Moments.{started}
 use Rattle.fc_metadisk.specs.Disk.{LeavesOnly, Only}
 use Rattle.fc_noted.proofs.InHand.{stands_recovered}
-use Rattle.fc_noted.proofs.Resting.{rests}
+use Rattle.fc_noted.proofs.Resting.{rests_safe}
 use Rattle.fc_noted.specs.Noted.{IsDoing, IsNotedAt}
-use Rattle.fc_noted.specs.Stopping.{LeavesRecoverable, MayBeRecovered, MayHold}
+use Rattle.fc_noted.specs.Stopping.{LeavesRecoverable, MayBeRecovered, MayHold, MoreFailed}
 use Rattle.fc_noted.specs.declared.noted.Noted.{Noted}
 use Rattle.fc_noted.specs.declared.noted.UnderWay.{UnderWay}
 use Rattle.fc_script.specs.declared.script.Script.{Script}
@@ -37,7 +37,7 @@ module _ {C D : Type 0} (seen : D → List ℕ) (may_leave : D → List ℕ → 
         reached = λ read. stays;
         asked = tt;
         sound = at.keeps.sound;
-        found = λ back hold. (None, rests seen may_leave n history w least None at back few hold);
+        found = λ back hold. rests_safe seen may_leave n history w least None (MoreFailed w n.store.lanes) at back few hold;
       }
 
   -- where the disk of metadata stays as it is

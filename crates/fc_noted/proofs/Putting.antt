@@ -27,7 +27,7 @@ use Rattle.fc_metadisk.specs.Disk.{LeavesOnly}
 use Rattle.fc_noted.proofs.Fitting.{IsFit}
 use Rattle.fc_noted.proofs.Tidying.{ids_with, image_with}
 use Rattle.fc_noted.specs.Noted.{IsDoing, Keeps}
-use Rattle.fc_noted.specs.Stopping.{HasStopped, LeavesRecoverable, MayBeRecovered, MayHold}
+use Rattle.fc_noted.specs.Stopping.{AreCounted, HasStopped, LeavesRecoverable, MayBeRecovered, MayHold}
 use Rattle.fc_noted.specs.declared.noted.Noted.{Noted}
 use Rattle.fc_noted.specs.declared.noted.UnderWay.{UnderWay}
 use Rattle.fc_script.specs.declared.script.Script.{Script}
@@ -114,10 +114,11 @@ module _ {C D : Type 0} (seen : D → List ℕ) (may_leave : D → List ℕ → 
       ])
       run
 
-  pub put_stops : HaveVolumes new.disks new.store → Recovers new.named new.store.lanes image → Recovers new.named new.store.lanes (after_record image x) → HasStopped may_leave old new w least
-  put_stops volumes without with_record =
+  pub put_stops : HaveVolumes new.disks new.store → AreCounted w new.store.lanes → Recovers new.named new.store.lanes image → Recovers new.named new.store.lanes (after_record image x) → HasStopped may_leave old new w least
+  put_stops volumes counted without with_record =
       record {
         volumes = volumes;
+        counted = counted;
         leaves = λ c left. elim (run.each c (counts_now new.meta.disk (moment old.meta.disk) c run.later left)) [
           | inl e ↦ (image, e ∙ says, without)
           | inr e ↦ (after_record image x, with_it c e, with_record)

@@ -15,6 +15,8 @@ use Rattle.law_crash.proofs.Whole.{crash_law_holds}
 use Rattle.law_crash.specs.Points.{Point, StandsFor}
 use Rattle.fc_held.specs.Held.{HoldAllOf}
 use Rattle.fc_noted.specs.Noted.{IsNotedAt}
+use Rattle.fc_noted.proofs.Safe.{as_it_was}
+use Rattle.law_noted.specs.One.{IsSafe}
 use Rattle.law_noted.specs.Runs.{HasRun}
 use Rattle.fc_noted.specs.declared.noted.Noted.{Noted}
 use Rattle.fc_held.proofs.Holding.{all_agree}
@@ -31,3 +33,10 @@ rests seen may_leave n history w least asked at back few hold =
     let here : Recoverable grain back p.kept w least asked None =
     recovers_agreeing grain p.disks back p.kept w least asked None (all_agree grain n.named p.kept n.store.lanes p.disks back no_lane at.keeps.matches hold) found in
     subst (λ (k : Kept). Recoverable grain back k w least asked None) (sym at.keeps.kept) here
+
+-- no grain is otherwise
+pub rests_safe : {C D : Type 0} (seen : D → List ℕ) (may_leave : D → List ℕ → Type 0) (n : Noted C D) (history : HistoryState) (w : Whole) (least : List Row) (asked : Option Request) (Failed : Type 0) →
+    (at : IsNotedAt seen may_leave n history w least) (back : List (List NamedDisk)) → w.entries ≤ 262144 → HoldAllOf n.named n.store.lanes back →
+    IsSafe n.store.control.grain back (kept_in at.keeps.image) w least asked Failed
+rests_safe seen may_leave n history w least asked Failed at back few hold =
+    as_it_was n.store.control.grain back (kept_in at.keeps.image) w least asked Failed (rests seen may_leave n history w least asked at back few hold)

@@ -29,7 +29,7 @@ module _ {C D : Type 0} (seen : D → List ℕ) (may_leave : D → List ℕ → 
         any_moment = made.any_moment;
         stopped = λ w least at.
             let x = made.stopped w least at in
-            (x.0, record { volumes = x.1.volumes; leaves = x.1.leaves });
+            (x.0, record { volumes = x.1.volumes; counted = x.1.counted; leaves = x.1.leaves });
         full = made.full;
       }
 
