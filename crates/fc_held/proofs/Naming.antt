@@ -9,11 +9,12 @@ use Rattle.std.proofs.lemmas.Option.{slice_get-get_or, slice_get_past}
 use Rattle.fc_base.specs.declared.ids.VolId.{VolId}
 use Rattle.fc_base.specs.declared.volume.Volume.{Volume}
 use Rattle.fc_decided.proofs.Lists.{in_cases, none_in}
-use Rattle.fc_grains.specs.Grains.{AreAllOf, GrainsState, HasWholeGrains, pool_of}
+use Rattle.fc_grains.specs.Grains.{AreAllOf, GrainsState, HasWholeGrains, pool_of, stopped}
 use Rattle.fc_grains.specs.Volumes.{HoldAll, VolumeGrains}
 use Rattle.fc_kept.specs.Disks.{NamedDisk}
 use Rattle.fc_lane.specs.Lane.{LaneView}
 use Rattle.fc_mdisk.specs.Disk.{DiskState}
+use Rattle.fc_mdisk.specs.Disks.{calls_of, faults_of}
 use Rattle.fc_held.specs.Held.{HasNoName, HeldBy, HoldAllOf, HoldLane, name_in, name_of}
 
 -- ---- the name at a place
@@ -116,6 +117,10 @@ without_names (x ∷ ds) d c = elim (in_cases (with_name None x) d (map (with_na
   | inr later ↦ without_names ds d later
 ]
 
+-- what a lane counted, its disks counted
+at_most : (n c : ℕ) → stopped n ≡ c → c ≤ n
+at_most n c is = grind (arith, is)
+
 pub lane_held : (named : ℕ) (volumes : List Volume) (g : GrainsState) (disks : List DiskState) (back : List NamedDisk) →
     back ≡ with_names named (reverse volumes) disks → AreAllOf g disks → numbers_held g.volumes ≡ numbers_of volumes → HoldLane named g back
 lane_held named volumes g disks back e all has =
@@ -124,6 +129,7 @@ lane_held named volumes g disks back e all has =
     as_many (reverse g.volumes) all.own all.held
     ∙ (sym (length-map (reverse g.volumes) (λ (x : VolumeGrains). x.volume))
     ∙ (ap (length {A = VolId}) numbers ∙ length-map (reverse volumes) (λ (v : Volume). v.id))) in
+    let are : map (λ (d : NamedDisk). d.disk) back ≡ disks = ap (map (λ (d : NamedDisk). d.disk)) e ∙ named_disks named (reverse volumes) disks in
     record {
       own = with_names named (reverse volumes) all.own;
       rest = map (with_name None) (g.pooled ++ g.aside);
@@ -134,7 +140,9 @@ lane_held named volumes g disks back e all has =
       whole = whole_named (HasWholeGrains g.grain) named (reverse volumes) all.own all.whole;
       free = same_disks (g.pooled ++ g.aside);
       unnamed = without_names (g.pooled ++ g.aside);
-      kinds = ap pool_of (ap (map (λ (d : NamedDisk). d.disk)) e ∙ named_disks named (reverse volumes) disks) ∙ all.kinds;
+      kinds = ap pool_of are ∙ all.kinds;
+      calls = at_most (calls_of (map (λ (d : NamedDisk). d.disk) back)) g.calls (ap (λ (ds : List DiskState). stopped (calls_of ds)) are ∙ all.calls);
+      faults = at_most (faults_of (map (λ (d : NamedDisk). d.disk) back)) g.faults (ap (λ (ds : List DiskState). stopped (faults_of ds)) are ∙ all.faults);
     }
 
 -- ---- one disk after the other
