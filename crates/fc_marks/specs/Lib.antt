@@ -2,4 +2,3 @@
 pub mod Stops
 pub mod Room
 pub mod Marks
-pub mod Meter
