@@ -14,7 +14,7 @@ use Rattle.fc_image.specs.declared.record.MetaRecord.TheVariants.{Torn as TornRe
 use Rattle.fc_kept.specs.Actions.{Action, Action.Data, Action.Note, Action.Fold, mark_of}
 use Rattle.fc_kept.specs.Disks.{NamedDisk, disk_of, on_disk}
 use Rattle.fc_kept.specs.Images.{size_in}
-use Rattle.fc_kept.specs.Kept.{Kept, is_lost_in, kept_after, sheet_kept}
+use Rattle.fc_kept.specs.Kept.{is_lost_in, kept_after, sheet_kept}
 use Rattle.fc_kept.specs.OneGrain.{Another}
 use Rattle.fc_kept.specs.Recoverable.{Recoverable, disks_at}
 use Rattle.fc_legal.specs.Whole.{Whole, lane_at, lane_of_grain, lanes}
@@ -22,6 +22,7 @@ use Rattle.fc_rules.specs.LaneTold.{LaneOf, place_of}
 use Rattle.fc_rules.specs.Steps.{DiskStep}
 use Rattle.fc_steps.specs.StepsEnd.{torn_in}
 use Rattle.fc_steps.specs.declared.stop.Stop.{Stop}
+use Rattle.fc_steps.specs.declared.stop.Stop.TheVariants.{Failed}
 use Rattle.law_agreeing.specs.Agreeing.{AllAgree}
 use Rattle.law_agreeing.specs.Coming.{ArePaired, chains_by, one_of}
 use Rattle.law_agreeing.proofs.Coming.{coming_law_holds}
@@ -35,12 +36,14 @@ use Rattle.law_crash.proofs.Doable.{fill_doable, write_doable}
 use Rattle.law_crash.proofs.Fitting.{fits_now}
 use Rattle.law_crash.proofs.Lawful.{all_found, clean_of, copy_of}
 use Rattle.law_crash.proofs.Writing.{AreDoable, Disked, disked_still, split_doable}
-use Rattle.law_noted.specs.Advancing.{StopLaw}
+use Rattle.law_noted.specs.Advancing.{HasTorn, StopLaw}
 use Rattle.law_noted.specs.Came.{Came, Came.behind, Came.marked, Came.waits, Came.stopped, Came.tears}
+use Rattle.law_noted.specs.One.{IsSafe}
 use Rattle.law_noted.proofs.Acting.{Halves, actions_both, halves}
 use Rattle.law_noted.proofs.Losing.{agree_fewer, marked_agree, put_agree, uncopied_agree}
 use Rattle.law_noted.proofs.Marking.{note_is}
 use Rattle.law_noted.proofs.Nexts.{same_end}
+use Rattle.law_noted.proofs.OldOrNew.{among_steps, is_new, is_old, is_torn}
 use Rattle.law_noted.proofs.Parts.{IsDataStep, any_step, data_step, did_marks, front_paired, in_parts, steps_paired}
 use Rattle.law_noted.proofs.Tearing.{torn_found}
 
@@ -93,9 +96,13 @@ found_at grain w least r steps p n stop q b (marked front own z split is_own did
 found_at grain w least r steps p n stop q b (stopped front back step why z split x) = found_stopped grain w least r steps front back step (torn_in (Some why)) p z b split x
 
 rests : (grain : GrainSize) (w : Whole) (least : List Row) (r : Request) (steps : List DiskStep) (p : Point) (n : ℕ) (stop : Option Stop) (q : Point) (back : List (List NamedDisk)) →
-    Begins grain w least r steps p → Came grain w r p.kept.rows steps p n stop None q → AllAgree grain q.kept q.disks back →
-    (one : Option Another) × Recoverable grain back q.kept w least (Some r) one
-rests grain w least r steps p n stop q back b came a = (None, recovers_agreeing grain q.disks back q.kept w least (Some r) None a (found_at grain w least r steps p n stop q b came))
+    Begins grain w least r steps p → Came grain w r p.kept.rows steps p n stop None q → AllAgree grain q.kept q.disks back → IsSafe grain back q.kept w least (Some r) (HasTorn stop)
+rests grain w least r steps p n stop q back b came a =
+    record {
+      one = None;
+      recoverable = recovers_agreeing grain q.disks back q.kept w least (Some r) None a (found_at grain w least r steps p n stop q b came);
+      one_is = is_old grain w q.kept (HasTorn stop) (Some r);
+    }
 
 -- ---- in a step
 
@@ -116,13 +123,10 @@ found_within grain w least r steps front back step p y content disks b split som
     (coming_law_holds.within grain w r (chains_by w.books.sheet A) step s.note B y content disks x)
 
 -- what waits is the record of these data
-abbrev Found : GrainSize → Whole → List Row → Request → List (List NamedDisk) → Kept → Type 0
-Found grain w least r back k = (one : Option Another) × Recoverable grain back k w least (Some r) one
-
-waits_found : (grain : GrainSize) (w : Whole) (least : List Row) (r : Request) (steps front back : List DiskStep) (step : DiskStep) (first : List Action) (x : MetaRecord) (p q : Point) (disks : List (List NamedDisk)) →
+waits_found : (grain : GrainSize) (w : Whole) (least : List Row) (r : Request) (steps front back : List DiskStep) (step : DiskStep) (first : List Action) (x : MetaRecord) (p q : Point) (disks : List (List NamedDisk)) (P : Type 0) →
     Begins grain w least r steps p → steps ≡ front ++ step ∷ back → 1 ≤ step.calls → actions_of_step p.kept.rows (number_of grain r) step ≡ first ++ Note x ∷ [] →
-    Did grain w r w.books.sheet (actions_of_steps p.kept.rows (number_of grain r) front ++ first) p q → AllAgree grain (kept_after q.kept x) q.disks disks → Found grain w least r disks q.kept
-waits_found grain w least r steps front back step first x p q disks b split some acts did agree =
+    Did grain w r w.books.sheet (actions_of_steps p.kept.rows (number_of grain r) front ++ first) p q → AllAgree grain (kept_after q.kept x) q.disks disks → IsSafe grain disks q.kept w least (Some r) P
+waits_found grain w least r steps front back step first x p q disks P b split some acts did agree =
     let g : ℕ = number_of grain r in
     let rows : List Row = p.kept.rows in
     let A : List Action = actions_of_steps rows g front in
@@ -141,8 +145,12 @@ waits_found grain w least r steps front back step first x p q disks b split some
     let fewer : AllAgree grain now.kept now.disks disks =
     agree_fewer grain (kept_after now.kept x) now.kept now.disks disks
     (λ v u e. subst (λ (n : MetaRecord). is_lost_in (kept_after now.kept n).lost v u ≡ false) is (s.whole now.kept.lost v u e)) whole in
-    subst (λ (z : Point). Found grain w least r disks z.kept) {x = now} (sym {b = now} h.rest.2)
-    (Some (one_of grain w r step now), recovers_agreeing grain now.disks disks now.kept w least (Some r) (Some (one_of grain w r step now)) fewer here)
+    let safe : IsSafe grain disks now.kept w least (Some r) P = record {
+      one = Some (one_of grain w r step now);
+      recoverable = recovers_agreeing grain now.disks disks now.kept w least (Some r) (Some (one_of grain w r step now)) fewer here;
+      one_is = is_new grain w r step now P (among_steps grain w r steps front back step b.steps_are split) h.rest.1.stored.here;
+    } in
+    subst (λ (z : Point). IsSafe grain disks z.kept w least (Some r) P) {x = now} (sym {b = now} h.rest.2) safe
 
 -- ---- a step whose write failed
 
@@ -181,7 +189,7 @@ bytes_on l (Some disk) g = (_, refl)
 tears_found : (grain : GrainSize) (w : Whole) (least : List Row) (r : Request) (steps front back : List DiskStep) (step : DiskStep) (torn : Torn) (p q : Point) (disks : List (List NamedDisk)) → Begins grain w least r steps p → 0 < lanes w →
     HaveTheirDisks w p.disks → steps ≡ front ++ step ∷ back → 1 ≤ step.calls → torn ≡ record { volume = record { 0 = step.volume }; grain = record { 0 = number_of grain r }; side = step.side } →
     Did grain w r w.books.sheet (actions_of_steps p.kept.rows (number_of grain r) front ++ marks_by_move p.kept.rows (number_of grain r) step step.move) p q →
-    AllAgree grain (kept_after q.kept (TornRecord torn.volume torn.grain torn.side)) q.disks disks → Found grain w least r disks q.kept
+    AllAgree grain (kept_after q.kept (TornRecord torn.volume torn.grain torn.side)) q.disks disks → IsSafe grain disks q.kept w least (Some r) (HasTorn (Some (Failed (Some torn))))
 tears_found grain w least r steps front back step torn p q disks b some have split calls is did agree =
     let g : ℕ = number_of grain r in
     let v : ℕ = step.volume in
@@ -193,19 +201,20 @@ tears_found grain w least r steps front back step torn p q disks b some have spl
     let torn_agree : AllAgree grain (kept_after q.kept (TornRecord record { 0 = v } record { 0 = g } step.side)) q.disks disks =
     subst (λ (t : Torn). AllAgree grain (kept_after q.kept (TornRecord t.volume t.grain t.side)) q.disks disks) is agree in
     let new : List (List NamedDisk) = put.new in
-    let one : Another = one_of grain w r step (with_disks new q) in (
-      Some one,
-      recovers_agreeing grain new disks q.kept w least (Some r) (Some one)
+    let one : Another = one_of grain w r step (with_disks new q) in
+    record {
+      one = Some one;
+      recoverable = recovers_agreeing grain new disks q.kept w least (Some r) (Some one)
           (put_agree grain w q.kept v g step.side on.0 q.disks new disks here.count torn_agree put.writes on.1)
-          (found_within grain w least r steps front back step p q (Bytes on.0) new b split calls did put.writes),
-    )
+          (found_within grain w least r steps front back step p q (Bytes on.0) new b split calls did put.writes);
+      one_is = is_torn grain w r step (with_disks new q) (HasTorn (Some (Failed (Some torn)))) (among_steps grain w r steps front back step b.steps_are split) (torn, refl);
+    }
 
 due : (grain : GrainSize) (w : Whole) (least : List Row) (r : Request) (steps : List DiskStep) (p : Point) (n : ℕ) (stop : Option Stop) (x : MetaRecord) (q : Point) (back : List (List NamedDisk)) →
     Begins grain w least r steps p → 0 < lanes w → HaveTheirDisks w p.disks →
-    Came grain w r p.kept.rows steps p n stop (Some x) q → AllAgree grain (kept_after q.kept x) q.disks back →
-    (one : Option Another) × Recoverable grain back q.kept w least (Some r) one
+    Came grain w r p.kept.rows steps p n stop (Some x) q → AllAgree grain (kept_after q.kept x) q.disks back → IsSafe grain back q.kept w least (Some r) (HasTorn stop)
 due grain w least r steps p n stop x q disks b some have (waits front back step first y z split calls acts did) agree =
-    waits_found grain w least r steps front back step first y p z disks b split calls acts did agree
+    waits_found grain w least r steps front back step first y p z disks (HasTorn None) b split calls acts did agree
 due grain w least r steps p n stop x q disks b some have (tears front back step torn begun z split calls is did marks) agree =
     tears_found grain w least r steps front back step torn p z disks b some have split calls is
     (did_marks grain w r p.kept.rows steps front back step p begun z b.steps_are split did marks) agree

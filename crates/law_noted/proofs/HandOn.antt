@@ -1,6 +1,7 @@
 -- How an entry in hand goes on by records and marks, and what may be recovered of it.
-use Rattle.std.proofs.Common.{◌≡◌, ℕ, ◌+◌, ◌<◌, ◌≤◌, ◌%◌, true, Option, Some, None, List, [], refl, sym, ap, subst, ◌∙◌}
+use Rattle.std.proofs.Common.{◌≡◌, ℕ, ◌+◌, ◌<◌, ◌≤◌, ◌%◌, true, Option, Some, None, List, [], drop, take, refl, sym, ap, subst, ◌∙◌}
 use Rattle.std.specs.List.{list_any}
+use Rattle.fc_base.specs.Count.{HasRisen}
 use Rattle.fc_base.specs.declared.ids.GrainNo.{GrainNo}
 use Rattle.fc_base.specs.declared.request.Move.{Move}
 use Rattle.fc_base.specs.declared.request.Request.{Request}
@@ -13,10 +14,8 @@ use Rattle.fc_image.specs.declared.record.MetaRecord.TheVariants.{Changing}
 use Rattle.fc_kept.specs.Actions.{is_unmarked}
 use Rattle.fc_kept.specs.Disks.{NamedDisk}
 use Rattle.fc_kept.specs.Kept.{kept_after}
-use Rattle.fc_kept.specs.OneGrain.{Another}
 use Rattle.fc_kept.specs.Prefix.{AreStepsOf}
-use Rattle.fc_kept.specs.Recoverable.{Recoverable}
-use Rattle.fc_lane.specs.Doing.{HasBegun}
+use Rattle.fc_lane.specs.Doing.{HasBegun, HasCome, IsUnderWay}
 use Rattle.fc_lane.specs.Lane.{IsLaneOf, LaneView, of}
 use Rattle.fc_lane.specs.declared.doing.Doing.{Doing}
 use Rattle.fc_legal.specs.Stands.{Stands}
@@ -24,7 +23,7 @@ use Rattle.fc_legal.specs.Whole.{Whole, lane_at, lanes, part_at, part_of_rows}
 use Rattle.fc_marks.specs.Marks.{is_open_any, marked}
 use Rattle.fc_marks.specs.declared.marks.Mark.{Mark}
 use Rattle.fc_parts.specs.Law.{IsInVolume}
-use Rattle.fc_rules.specs.LaneTold.{LaneOf, place_of}
+use Rattle.fc_rules.specs.LaneTold.{LaneOf, LaneTold, place_of}
 use Rattle.fc_rules.specs.Steps.{DiskStep}
 use Rattle.fc_steps.specs.Asking.{request_of}
 use Rattle.fc_steps.specs.UnderWay.{next_of}
@@ -32,15 +31,17 @@ use Rattle.fc_steps.specs.declared.ask.Ask.{Ask}
 use Rattle.fc_steps.specs.declared.stepping.Next.TheVariants.{Move as NextMove, Own}
 use Rattle.fc_steps.specs.declared.stepping.Steps.{Steps}
 use Rattle.fc_steps.specs.declared.stop.Stop.{Stop}
+use Rattle.fc_steps.specs.declared.stop.Stop.TheVariants.{Failed}
 use Rattle.law_agreeing.specs.Agreeing.{AllAgree}
 use Rattle.law_crash.specs.Doing.{noted, number_of}
 use Rattle.law_crash.specs.Law.{Begins}
 use Rattle.law_crash.specs.Leaving.{HaveTheirDisks}
 use Rattle.law_crash.specs.Points.{Point}
 use Rattle.law_crash.proofs.Running.{runs_all}
-use Rattle.law_noted.specs.Advancing.{mark_at, uncopied}
+use Rattle.law_noted.specs.Advancing.{HasTorn, mark_at, uncopied}
 use Rattle.law_noted.specs.Came.{Came, Came.behind, steps_done}
 use Rattle.law_noted.specs.DataSteps.{IsInHand, copies_nothing}
+use Rattle.law_noted.specs.One.{IsSafe}
 use Rattle.law_noted.specs.Records.{kept_by}
 use Rattle.law_noted.specs.Runs.{HasRun}
 use Rattle.law_noted.proofs.DataInHand.{grain_is, lane_is_of, place_is}
@@ -49,6 +50,8 @@ use Rattle.law_noted.proofs.HandNext.{IsAlone, IsOwnNext, alone, own_next}
 use Rattle.law_noted.proofs.Losing.{uncopied_agree}
 use Rattle.law_noted.proofs.Marking.{marking_law_holds, row_law_holds}
 use Rattle.law_noted.proofs.MarkRows.{wanted}
+use Rattle.law_noted.proofs.NextSteps.{failed_by}
+use Rattle.law_noted.proofs.OldOrNew.{safe_by}
 use Rattle.law_noted.proofs.Recording.{record_law_holds}
 
 -- ---- it begins
@@ -110,13 +113,25 @@ put grain w least place doing begun now steps before x q h =
 
 -- ---- what may be recovered
 
+-- a write that failed is a fault that the lane counted
+faults_risen : (begun now : LaneView) (doing : Doing) → IsUnderWay begun doing now → HasTorn doing.steps.stop → HasRisen begun.grains.faults now.grains.faults
+faults_risen begun now doing under t =
+    let told : LaneTold = under.can.0 in
+    let c : HasCome begun told doing now = under.came told under.can.1 under.can.2 in
+    let s : Steps = doing.steps in
+    (failed_by (of begun) told s.ask c.slot (take s.made s.planned.moves) (drop s.made s.planned.moves) s.calls s.stop s.written t.0 begun.chains now.chains begun.grains now.grains c.way.came t.1).risen
+
 pub found : (grain : GrainSize) (w : Whole) (least : List Row) (place : ℕ) (doing : Doing) (begun now : LaneView) (steps : List DiskStep) (before : Point) (due : Option MetaRecord) (q : Point) (back : List (List NamedDisk)) →
     IsInHand grain w least place doing begun now steps before due q → AllAgree grain (kept_by due q.kept) q.disks back →
-    (one : Option Another) × Recoverable grain back q.kept w least (Some (request_of doing.steps.ask)) one
+    IsSafe grain back q.kept w least (Some (request_of doing.steps.ask)) (HasRisen begun.grains.faults now.grains.faults)
 found grain w least place doing begun now steps before None q back h a =
-    stop_law_holds.rests grain w least (request_of doing.steps.ask) steps before (steps_done doing.steps) doing.steps.stop q back h.begins h.came a
+    let r : Request = request_of doing.steps.ask in
+    safe_by grain back q.kept w least (Some r) (HasTorn doing.steps.stop) (HasRisen begun.grains.faults now.grains.faults) (faults_risen begun now doing h.under)
+    (stop_law_holds.rests grain w least r steps before (steps_done doing.steps) doing.steps.stop q back h.begins h.came a)
 found grain w least place doing begun now steps before (Some x) q back h a =
-    stop_law_holds.due grain w least (request_of doing.steps.ask) steps before (steps_done doing.steps) doing.steps.stop x q back h.begins h.stands.each_lane.some h.have h.came a
+    let r : Request = request_of doing.steps.ask in
+    safe_by grain back q.kept w least (Some r) (HasTorn doing.steps.stop) (HasRisen begun.grains.faults now.grains.faults) (faults_risen begun now doing h.under)
+    (stop_law_holds.due grain w least r steps before (steps_done doing.steps) doing.steps.stop x q back h.begins h.stands.each_lane.some h.have h.came a)
 
 module _ (grain : GrainSize) (w : Whole) (least : List Row) (place : ℕ) (doing : Doing) (begun now : LaneView) (steps : List DiskStep) (before q : Point) (h : IsInHand grain w least place doing begun now steps before None q) where
   abbrev r : Request
@@ -140,9 +155,10 @@ module _ (grain : GrainSize) (w : Whole) (least : List Row) (place : ℕ) (doing
       record_law_holds.uncopied grain w r before.kept.rows steps before n a.step m q a.next a.move a.calls (came_on a.stop_is)
 
   pub alone_found : (m : Move) (back : List (List NamedDisk)) → next_of doing.steps ≡ NextMove m → copies_nothing now doing.steps.place m ≡ true → AllAgree grain q.kept q.disks back →
-      (one : Option Another) × Recoverable grain back (kept_after q.kept (uncopied m)) w least (Some r) one
+      IsSafe grain back (kept_after q.kept (uncopied m)) w least (Some r) (HasRisen begun.grains.faults now.grains.faults)
   alone_found m back e copies a =
-      stop_law_holds.rests grain w least r steps before (n + 1) None (noted (uncopied m) q) back h.begins (put_alone m e copies) (uncopied_agree grain q.kept m q.disks back a)
+      safe_by grain back (kept_after q.kept (uncopied m)) w least (Some r) (HasTorn None) (HasRisen begun.grains.faults now.grains.faults) (λ t. absurd (let no : None ≡ Some (Failed (Some t.0)) = t.1 in cc))
+      (stop_law_holds.rests grain w least r steps before (n + 1) None (noted (uncopied m) q) back h.begins (put_alone m e copies) (uncopied_agree grain q.kept m q.disks back a))
 
   -- ---- a write is marked
 

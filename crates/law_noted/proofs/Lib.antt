@@ -18,6 +18,7 @@ pub mod Marking
 pub mod Losing
 pub mod Parts
 pub mod Tearing
+pub mod OldOrNew
 pub mod Finding
 pub mod Ending
 pub mod Advancing

@@ -1,5 +1,5 @@
 -- What is known of the one grain that a stop may find otherwise: it is as it was, or it has what a step of the entry writes.
-use Rattle.std.specs.Prelude.{◌≡◌, ℕ, if◌then◌else◌, List, Contains, Option, Some, None}
+use Rattle.std.specs.Prelude.{ℕ, if◌then◌else◌, List, Contains, Option, Some, None}
 use Rattle.fc_base.specs.declared.request.Request.{Request}
 use Rattle.fc_base.specs.declared.size.GrainSize.{GrainSize}
 use Rattle.fc_changed.specs.Row.{Row}
