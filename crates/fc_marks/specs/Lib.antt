@@ -2,3 +2,4 @@
 pub mod Stops
 pub mod Room
 pub mod Marks
+pub mod Meter

@@ -1,4 +1,5 @@
 -- A noted store, to be read top to bottom.
+pub mod Metered
 pub mod Noted
 pub mod Stopping
 pub mod Making

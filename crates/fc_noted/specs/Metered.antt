@@ -1,0 +1,98 @@
+-- How many calls of its disk the metadata of a history costs, entry by entry.
+use Rattle.std.specs.Prelude.{◌≡◌, ◌≢◌, ℕ, List, [], ◌∷◌, ◌++◌, fold, Option, Some, None}
+use Rattle.fc_base.specs.declared.command.Command.{Command}
+use Rattle.fc_base.specs.declared.ids.VolId.{VolId}
+use Rattle.fc_base.specs.declared.request.Place.TheVariants.{Every}
+use Rattle.fc_base.specs.declared.request.Request.{Request}
+use Rattle.fc_base.specs.declared.request.Request.TheVariants.{Command as Asked}
+use Rattle.fc_base.specs.declared.request.Torn.{Torn}
+use Rattle.fc_base.specs.declared.size.GrainSize.{GrainSize}
+use Rattle.fc_books.specs.Deciding.{IsLoopOf, settle}
+use Rattle.fc_changed.specs.Row.{Row}
+use Rattle.fc_entry.specs.declared.entry.Entry.{Entry}
+use Rattle.fc_image.specs.declared.image.MetaImage.{MetaImage}
+use Rattle.fc_kept.specs.Actions.{Action, Action.Data, Action.Note, Action.Fold, actions_of_command, actions_of_stop}
+use Rattle.fc_kept.specs.Images.{kept_in}
+use Rattle.fc_kept.specs.Kept.{LostGrains}
+use Rattle.fc_kept.specs.Marks.{asked_write}
+use Rattle.fc_kept.specs.Prefix.{AreStepsOf}
+use Rattle.fc_legal.specs.Steps.{Step, after_settling, decided_on}
+use Rattle.fc_legal.specs.Whole.{Whole}
+use Rattle.fc_marks.specs.Meter.{Meter, filled_size, with_fold, with_record}
+use Rattle.fc_rules.specs.Steps.{DiskStep}
+use Rattle.law_crash.specs.Doing.{Tells, actions_of_steps, marks_by_move, number_of}
+use Rattle.law_crash.specs.Leaving.{made_anew}
+use Rattle.law_crash.specs.Points.{nothing_kept}
+
+-- ---- an access
+
+-- Records are put one after the other. Data make no call of the disk of metadata.
+abbrev pub after_action : ℕ → Meter → Action → Meter
+after_action half m (Data step) = m
+after_action half m (Note note) = with_record half note m
+after_action half m Fold = with_fold m.image m
+
+abbrev pub after_actions : ℕ → Meter → List Action → Meter
+after_actions half m actions = fold (after_action half) m actions
+
+-- The actions of the steps before one that stopped, and what is noted of that one.
+abbrev pub actions_stopped : GrainSize → List Row → Request → List DiskStep → DiskStep → Option Torn → List Action
+actions_stopped grain rows request front step torn =
+    actions_of_steps rows (number_of grain request) front
+    ++ (marks_by_move rows (number_of grain request) step step.move ++ actions_of_stop torn)
+
+-- The actions of an entry that is no command's, by the rows that metadata has when it begins: none, where it has no steps; those of
+-- all its steps; or those up to a step that stopped.
+pub data AreActionsOf (grain : GrainSize) (w : Whole) (rows : List Row) (entry : Entry) : List Action → Type 0 where
+  still : Tells entry.request None [] None entry → AreActionsOf grain w rows entry []
+  whole : (steps : List DiskStep) → AreStepsOf grain w entry.request steps →
+      Tells entry.request (asked_write entry.request) steps None entry →
+      AreActionsOf grain w rows entry (actions_of_steps rows (number_of grain entry.request) steps)
+  stopped : (front back : List DiskStep) (step : DiskStep) (torn : Option Torn) →
+      AreStepsOf grain w entry.request (front ++ step ∷ back) → Tells entry.request None front torn entry →
+      AreActionsOf grain w rows entry (actions_stopped grain rows entry.request front step torn)
+
+-- ---- a command
+
+-- What a command that is decided does to metadata, with its settling: it is made anew, or nothing is done.
+pub record CommandActs (grain : GrainSize) (w : Whole) (command : Command) (actions : List Action) : Type 0 where
+  pub loop : Option (List VolId)
+  pub is_loop : IsLoopOf grain (after_settling grain w).books command loop
+  pub are : actions_of_command (settle w.books) (decided_on grain (after_settling grain w) command loop) ≡ actions
+
+-- An image of all that is told.
+abbrev pub SaysAll : MetaImage → Whole → Type 0
+SaysAll image w = (lost : List LostGrains) × (kept_in image ≡ made_anew w w.rows lost)
+
+-- ---- a history
+
+-- What metadata was asked for behind these entries: four calls to open it, and then by each entry in its turn.
+pub data Metered (grain : GrainSize) (half : ℕ) : List Entry → Whole → Meter → Type 0 where
+  opened : (w : Whole) (image : MetaImage) → w.entries ≡ 0 → kept_in image ≡ nothing_kept →
+      Metered grain half [] w (record { image = image; used = filled_size image; calls = 4 })
+  access : (entries : List Entry) (w : Whole) (m : Meter) (entry : Entry) (next : Whole) (actions : List Action) →
+      Metered grain half entries w m → Step grain w entry next → entry.place ≢ Every →
+      AreActionsOf grain w (kept_in m.image).rows entry actions →
+      Metered grain half (entries ++ entry ∷ []) next (after_actions half m actions)
+  anew : (entries : List Entry) (w : Whole) (m : Meter) (entry : Entry) (next : Whole) (command : Command) (image : MetaImage) →
+      Metered grain half entries w m → Step grain w entry next → entry.place ≡ Every → entry.request ≡ Asked command →
+      CommandActs grain w command (Fold ∷ []) → SaysAll image next →
+      Metered grain half (entries ++ entry ∷ []) next (with_fold image m)
+  unchanged : (entries : List Entry) (w : Whole) (m : Meter) (entry : Entry) (next : Whole) (command : Command) →
+      Metered grain half entries w m → Step grain w entry next → entry.place ≡ Every → entry.request ≡ Asked command →
+      CommandActs grain w command [] →
+      Metered grain half (entries ++ entry ∷ []) next m
+
+-- ---- a request that isn't answered
+
+-- What it asks metadata for on the way: by some first actions of its steps, by the record of what a failed write tore, or by metadata
+-- made anew.
+pub data GoesInto (grain : GrainSize) (half : ℕ) (w : Whole) (m : Meter) : Request → Meter → Type 0 where
+  first : (request : Request) (steps : List DiskStep) (front back : List Action) → AreStepsOf grain w request steps →
+      actions_of_steps (kept_in m.image).rows (number_of grain request) steps ≡ front ++ back →
+      GoesInto grain half w m request (after_actions half m front)
+  tears : (request : Request) (front back : List DiskStep) (step : DiskStep) (torn : Torn) →
+      AreStepsOf grain w request (front ++ step ∷ back) →
+      GoesInto grain half w m request (after_actions half m (actions_stopped grain (kept_in m.image).rows request front step (Some torn)))
+  anew : (command : Command) (image : MetaImage) → CommandActs grain w command (Fold ∷ []) →
+      GoesInto grain half w m (Asked command) (with_fold image m)
