@@ -1,5 +1,5 @@
 -- What a crash leaves while a record is put into metadata, which errors come, and when there is room.
-use Rattle.std.proofs.Common.{◌≡◌, ◌⊎◌, inl, inr, ⊎_elim, ℕ, ◌+◌, ◌<◌, ◌≤◌, Bool, true, nat_le, List, length, refl, sym, ap, subst, ◌∙◌, arith}
+use Rattle.std.proofs.Common.{◌≡◌, inl, inr, ⊎_elim, ℕ, ◌+◌, ◌<◌, ◌≤◌, Bool, true, nat_le, List, length, refl, sym, ap, subst, ◌∙◌, arith}
 use Rattle.std.proofs.lemmas.Bool.{leb-true}
 use Rattle.std.specs.Prelude.{Err, IsErrOf, ⊤}
 use Rattle.fc_base.specs.Count.{HasRisen}
@@ -54,15 +54,19 @@ module _ {D : Type 0} (seen : D → List ℕ) (may_leave : D → List ℕ → Ty
 
 -- ---- errors
 
-pub has_failed : (e : MetaError) → IsErrOf {T = ⊤} (Err (stop_of_meta e)) MetaFailed → IsErrOf {T = ⊤} (Err e) Failed
+pub has_failed : {T : Type 0} (e : MetaError) → IsErrOf {T = T} (Err (stop_of_meta e)) MetaFailed → IsErrOf {T = ⊤} (Err e) Failed
 has_failed Failed told = refl
 has_failed NoMemory told = absurd cc
 has_failed Full told = absurd cc
 
-pub was_full : (e : MetaError) → IsErrOf {T = ⊤} (Err (stop_of_meta e)) MetaFull → IsErrOf {T = ⊤} (Err e) Full
+pub was_full : {T : Type 0} (e : MetaError) → IsErrOf {T = T} (Err (stop_of_meta e)) MetaFull → IsErrOf {T = ⊤} (Err e) Full
 was_full Full told = refl
 was_full Failed told = absurd cc
 was_full NoMemory told = absurd cc
+
+-- an error is the same in place of any answer
+pub same_error : {T A E : Type 0} (e told : E) → IsErrOf {T = T} (Err e) told → IsErrOf {T = A} (Err e) told
+same_error e told is = cc
 
 -- a count that stood still first has risen since
 pub has_risen : (old mid new : ℕ) → mid ≡ old → HasRisen mid new → HasRisen old new

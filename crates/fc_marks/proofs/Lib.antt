@@ -1,2 +1,3 @@
 -- Lemmas on what is put into metadata.
 pub mod Leaving
+pub mod Counting

@@ -38,6 +38,10 @@ pub record IsMetered {D : Type 0} (seen : D → List ℕ) (meta : Meta D) (m : M
   pub image : found seen meta ≡ Image m.image
   pub used : used_of meta ≡ m.used
 
+-- A count of calls after so many more at most.
+abbrev pub IsCalledUpTo : ℕ → ℕ → ℕ → Type 0
+IsCalledUpTo most old new = (made : ℕ) × (new ≡ more_calls made old) × (made ≤ most)
+
 -- A record was put, by so many calls.
 pub record IsPutBy {D : Type 0} (seen : D → List ℕ) (calls : D → ℕ) (note : MetaRecord) (made : ℕ) (old new : Meta D) : Type 0 where
   pub counted : calls (disk_of new) ≡ more_calls made (calls (disk_of old))

@@ -1,13 +1,14 @@
 //! A record is put into metadata.
 
-ghost use Rattle.std.specs.Prelude.{◌≡◌, ◌+◌, ◌∷◌, [], length, OnOk, IsErrOf};
+ghost use Rattle.std.specs.Prelude.{◌≡◌, ◌+◌, ◌∷◌, [], length, OnOk, IfOk, IsErrOf};
 ghost use Rattle.fc_base.specs.Count.{HasRisen};
 ghost use Rattle.fc_format.specs.Bytes.{half_bytes};
 ghost use Rattle.fc_format.specs.Halves.{Image};
 ghost use Rattle.fc_format.specs.Ranges.{HasGoodIds};
 ghost use Rattle.fc_image.specs.declared.image.MetaImage.{MetaImage as Said};
+ghost use Rattle.fc_marks.specs.Meter.{IsCalledUpTo, IsCalledWithin, IsPutBy, with_record};
 ghost use Rattle.fc_marks.specs.Room.{LeavesNoRoom};
-ghost use Rattle.fc_meta.specs.Answers.{LeavesEither, PassesHalf, found_with};
+ghost use Rattle.fc_meta.specs.Answers.{LeavesEither, PassesHalf, found_with, more_calls};
 ghost use Rattle.fc_meta.specs.States.{IsResting, disk_of, found, generation_of, room_of, used_of};
 ghost use Rattle.fc_metadisk.specs.Disk.{LeavesOnly};
 
@@ -19,7 +20,7 @@ use std::alloc::Global;
 
 /// Folds metadata as it stands: its image, with all batches, becomes the image of the other half. Nothing that it says changes.
 ///
-/// MetaFull where the image doesn't fit a half.
+/// Six calls of the disk. MetaFull where the image doesn't fit a half.
 fn fold_same<M: MetaDisk>(alloc: Global, meta: &mut Meta<M>) -> Result<(), NotedStop>
     requires rests { IsResting M.seen M.may_leave meta.old }
     requires ids { (image : Said) → found M.seen meta.old ≡ Image image → HasGoodIds image }
@@ -36,6 +37,9 @@ fn fold_same<M: MetaDisk>(alloc: Global, meta: &mut Meta<M>) -> Result<(), Noted
     ensures full { IsErrOf result NotedStop.MetaFull → (image : Said) → found M.seen meta.old ≡ Image image →
         PassesHalf (generation_of meta.old) image (room_of M.seen meta.old) }
     ensures not_log { IsErrOf result NotedStop.LogFull → ⊥ }
+    ensures counted { OnOk result (M.calls (disk_of meta.new) ≡ more_calls 6 (M.calls (disk_of meta.old))) }
+    ensures within { IsErrOf result NotedStop.MetaFailed →
+        IsCalledUpTo 6 (M.calls (disk_of meta.old)) (M.calls (disk_of meta.new)) }
 {
     let image = meta.image(alloc)?;
     meta.fold(alloc, &image)?;
@@ -43,14 +47,15 @@ fn fold_same<M: MetaDisk>(alloc: Global, meta: &mut Meta<M>) -> Result<(), Noted
 }
 
 /// Puts a record into metadata, as a batch; where the batch doesn't fit behind the others, metadata is folded as it stands before it.
-/// A crash leaves what stood before, or that with the record.
+/// A crash leaves what stood before, or that with the record. Answers how many calls of the disk were made: four, and six more where
+/// metadata was folded.
 ///
 /// MetaFull where the image doesn't fit a half, or leaves no room in it for the batch.
 pub fn put_record<M: MetaDisk>(
     alloc: Global,
     meta: &mut Meta<M>,
     note: MetaRecord,
-) -> Result<(), NotedStop>
+) -> Result<u64, NotedStop>
     requires rests { IsResting M.seen M.may_leave meta.old }
     requires ids { (image : Said) → found M.seen meta.old ≡ Image image → HasGoodIds image }
     ensures rests { OnOk result (IsResting M.seen M.may_leave meta.new) }
@@ -63,13 +68,17 @@ pub fn put_record<M: MetaDisk>(
     ensures full { IsErrOf result NotedStop.MetaFull → (image : Said) → found M.seen meta.old ≡ Image image →
         LeavesNoRoom (generation_of meta.old) image note (room_of M.seen meta.old) }
     ensures not_log { IsErrOf result NotedStop.LogFull → ⊥ }
+    ensures room { OnOk result (room_of M.seen meta.new ≡ room_of M.seen meta.old) }
+    ensures by { IfOk result (λ made. IsPutBy M.seen M.calls note made meta.old meta.new) }
+    ensures within { IsErrOf result NotedStop.MetaFailed →
+        IsCalledWithin M.seen M.calls meta.old meta.new (with_record (room_of M.seen meta.old) note) }
 {
     let records = [note];
     if meta.fits(&records) {
         meta.put(alloc, &records)?;
-        return Ok(());
+        return Ok(4);
     }
     fold_same(alloc, meta)?;
     meta.put(alloc, &records)?;
-    Ok(())
+    Ok(10)
 }

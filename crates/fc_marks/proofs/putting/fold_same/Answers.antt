@@ -1,8 +1,11 @@
-use Rattle.std.proofs.Common.{ℕ, ◌/◌, ap, ◌∙◌}
+use Rattle.std.proofs.Common.{ℕ, ◌/◌, ap, ◌∙◌, subst}
 use Rattle.std.proofs.lemmas.Result.{err_from_is_err_and}
 use Rattle.fc_format.specs.Halves.{half_size}
+use Rattle.fc_meta.specs.Answers.{more_calls}
 use Rattle.fc_meta.specs.States.{disk_of}
+use Rattle.fc_marks.proofs.Counting.{none_made, some_made}
 use Rattle.fc_marks.proofs.Leaving.{read_then, has_failed, was_full, has_risen, fold_used, fold_full}
+use Rattle.fc_marks.specs.Meter.{IsCalledUpTo}
 use Rattle.fc_marks.proofs.putting.fold_same.Goals as goal
 
 pub returns-in_err-fold-clause-any_moment : goal.returns-in_err-fold-clause-any_moment
@@ -33,3 +36,17 @@ returns-clause-used g c image is =
 
 pub returns-clause-room : goal.returns-clause-room
 returns-clause-room g c = ap (λ (n : ℕ). n / 2) c.in_ok-fold.ensures.treats.size ∙ ap half_size c.in_ok-image.ensures.seen
+
+pub returns-clause-counted : goal.returns-clause-counted
+returns-clause-counted g c = c.in_ok-fold.ensures.treats.asks.counted ∙ ap (more_calls 6) c.in_ok-image.ensures.calls
+
+pub returns-in_err-fold-clause-within : goal.returns-in_err-fold-clause-within
+returns-in_err-fold-clause-within g c =
+    let p = err_from_is_err_and c.from_residual-in_err-fold.result c.from_residual-in_err-fold.ensures.1 in
+    rw (p.1, p.2) (λ told. subst (λ (n : ℕ). IsCalledUpTo 6 n (g.M.MetaDisk.calls (disk_of c.fold.new.self))) c.in_ok-image.ensures.calls
+    (some_made 6 (g.M.MetaDisk.calls (disk_of c.image.new.self)) (g.M.MetaDisk.calls (disk_of c.fold.new.self)) (c.in_err-fold.ensures.treats.asks.stopped (has_failed c.in_err-fold.field-0.0 told))))
+
+pub returns-in_err-image-clause-within : goal.returns-in_err-image-clause-within
+returns-in_err-image-clause-within g c =
+    let p = err_from_is_err_and c.from_residual.result c.from_residual.ensures.1 in
+    rw (p.1, p.2) (λ told. none_made 6 (g.M.MetaDisk.calls (disk_of c.args.meta.now)) (g.M.MetaDisk.calls (disk_of c.image.new.self)) c.in_err-image.ensures.calls)
