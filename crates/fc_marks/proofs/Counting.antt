@@ -5,7 +5,7 @@ use Rattle.fc_format.specs.Bytes.{half_bytes}
 use Rattle.fc_format.specs.Halves.{Found, Image}
 use Rattle.fc_image.specs.declared.image.MetaImage.{MetaImage}
 use Rattle.fc_image.specs.declared.record.MetaRecord.{MetaRecord}
-use Rattle.fc_marks.specs.Meter.{Meter, IsCalledUpTo, IsCalledWithin, IsMetered, IsPutBy, batch_size, filled_size, with_batch, with_fold, with_record}
+use Rattle.fc_marks.specs.Meter.{Meter, IsCalledUpTo, IsCalledWithin, IsMetered, IsPut, batch_size, filled_size, with_batch, with_fold, with_record}
 use Rattle.fc_meta.proofs.Asked.{calls_added}
 use Rattle.fc_meta.proofs.Gates.{half_length}
 use Rattle.fc_meta.specs.Answers.{IsStopped, found_with, more_calls}
@@ -75,29 +75,35 @@ module _ {D : Type 0} (seen : D → List ℕ) (calls : D → ℕ) (note : MetaRe
 
   -- behind the other batches
   pub was_put : (new : Meta D) → Fits → found seen new ≡ found_with (found seen old) (note ∷ []) → head_of new ≡ head_with (batch_size note) (head_of old) →
-      calls (disk_of new) ≡ more_calls 4 (calls (disk_of old)) → IsPutBy seen calls note 4 old new
+      calls (disk_of new) ≡ more_calls 4 (calls (disk_of old)) → IsPut seen calls note old new
   was_put new fits stands head counted = record {
-    counted = counted;
     metered = λ m is. subst (λ (n : Meter). IsMetered seen new n) (sym (put_plainly (room_of seen old) note m (fits_so m is fits))) (record {
       image = stands ∙ ap (λ (f : Found). found_with f (note ∷ [])) is.image;
       used = ap (λ (h : Head). h.used) head ∙ ap (λ (n : ℕ). n + batch_size note) is.used;
     });
-    costs = λ m is. ap (λ (n : Meter). n.calls) (put_plainly (room_of seen old) note m (fits_so m is fits));
+    counted = λ m is. (4, counted, ap (λ (n : Meter). n.calls) (put_plainly (room_of seen old) note m (fits_so m is fits)));
   }
 
   -- behind an image that was folded
   pub was_folded : (mid new : Meta D) → Passes → found seen mid ≡ found seen old →
       ((image : MetaImage) → found seen old ≡ Image image → used_of mid ≡ length (half_bytes (generation_of old + 1) image)) →
       calls (disk_of mid) ≡ more_calls 6 (calls (disk_of old)) → found seen new ≡ found_with (found seen mid) (note ∷ []) →
-      head_of new ≡ head_with (batch_size note) (head_of mid) → calls (disk_of new) ≡ more_calls 4 (calls (disk_of mid)) → IsPutBy seen calls note 10 old new
+      head_of new ≡ head_with (batch_size note) (head_of mid) → calls (disk_of new) ≡ more_calls 4 (calls (disk_of mid)) → IsPut seen calls note old new
   was_folded mid new full same filled six stands head four = record {
-    counted = four ∙ ap (more_calls 4) six;
     metered = λ m is. subst (λ (n : Meter). IsMetered seen new n) (sym (put_folded (room_of seen old) note m (passes_so m is full))) (record {
       image = stands ∙ ap (λ (f : Found). found_with f (note ∷ [])) (same ∙ is.image);
       used = ap (λ (h : Head). h.used) head ∙ ap (λ (n : ℕ). n + batch_size note) (filled m.image is.image ∙ same_size (generation_of old + 1) m.image);
     });
-    costs = λ m is. costs_folded (room_of seen old) note m (passes_so m is full);
+    counted = λ m is. (10, four ∙ ap (more_calls 4) six, costs_folded (room_of seen old) note m (passes_so m is full));
   }
+
+  -- what a record costs, by whether its batch fits
+  pub costs_by : (b : Bool) (cost : ℕ) → b ≡ nat_le (used_of old + 1 + batch_size note) (room_of seen old) → cost ≡ (if b then 4 else 10) →
+      (m : Meter) → IsMetered seen old m → (with_record (room_of seen old) note m).calls ≡ m.calls + cost
+  costs_by true cost fits is_cost m is =
+      ap (λ (n : Meter). n.calls) (put_plainly (room_of seen old) note m (fits_so m is (sym fits))) ∙ ap (λ (n : ℕ). m.calls + n) (sym is_cost)
+  costs_by false cost passes is_cost m is =
+      costs_folded (room_of seen old) note m (passes_so m is (sym passes)) ∙ ap (λ (n : ℕ). m.calls + n) (sym is_cost)
 
   -- The disk has failed while a batch was put, or while metadata was folded first.
   pub short_of_batch : (new : Meta D) → IsCalledUpTo 4 (calls (disk_of old)) (calls (disk_of new)) → IsCalledWithin seen calls old new (with_record (room_of seen old) note)

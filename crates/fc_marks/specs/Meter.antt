@@ -42,11 +42,11 @@ pub record IsMetered {D : Type 0} (seen : D → List ℕ) (meta : Meta D) (m : M
 abbrev pub IsCalledUpTo : ℕ → ℕ → ℕ → Type 0
 IsCalledUpTo most old new = (made : ℕ) × (new ≡ more_calls made old) × (made ≤ most)
 
--- A record was put, by so many calls.
-pub record IsPutBy {D : Type 0} (seen : D → List ℕ) (calls : D → ℕ) (note : MetaRecord) (made : ℕ) (old new : Meta D) : Type 0 where
-  pub counted : calls (disk_of new) ≡ more_calls made (calls (disk_of old))
+-- A record was put, by so many calls as it costs.
+pub record IsPut {D : Type 0} (seen : D → List ℕ) (calls : D → ℕ) (note : MetaRecord) (old new : Meta D) : Type 0 where
   pub metered : (m : Meter) → IsMetered seen old m → IsMetered seen new (with_record (room_of seen old) note m)
-  pub costs : (m : Meter) → IsMetered seen old m → (with_record (room_of seen old) note m).calls ≡ m.calls + made
+  pub counted : (m : Meter) → IsMetered seen old m →
+      (made : ℕ) × (calls (disk_of new) ≡ more_calls made (calls (disk_of old))) × ((with_record (room_of seen old) note m).calls ≡ m.calls + made)
 
 -- The disk failed on the way: it was called so often at most.
 abbrev pub IsCalledWithin : {D : Type 0} → (seen : D → List ℕ) (calls : D → ℕ) → Meta D → Meta D → (Meter → Meter) → Type 0

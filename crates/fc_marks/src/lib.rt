@@ -10,4 +10,4 @@ mod putting;
 
 pub use error::NotedStop;
 pub use marks::{Mark, forget, remember, wants_mark};
-pub use putting::put_record;
+pub use putting::{calls_to_put, put_record};

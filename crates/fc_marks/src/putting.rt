@@ -6,7 +6,7 @@ ghost use Rattle.fc_format.specs.Bytes.{half_bytes};
 ghost use Rattle.fc_format.specs.Halves.{Image};
 ghost use Rattle.fc_format.specs.Ranges.{HasGoodIds};
 ghost use Rattle.fc_image.specs.declared.image.MetaImage.{MetaImage as Said};
-ghost use Rattle.fc_marks.specs.Meter.{IsCalledUpTo, IsCalledWithin, IsPutBy, with_record};
+ghost use Rattle.fc_marks.specs.Meter.{IsCalledUpTo, IsCalledWithin, IsMetered, IsPut, Meter, with_record};
 ghost use Rattle.fc_marks.specs.Room.{LeavesNoRoom};
 ghost use Rattle.fc_meta.specs.Answers.{LeavesEither, PassesHalf, found_with, more_calls};
 ghost use Rattle.fc_meta.specs.States.{IsResting, disk_of, found, generation_of, room_of, used_of};
@@ -46,6 +46,15 @@ fn fold_same<M: MetaDisk>(alloc: Global, meta: &mut Meta<M>) -> Result<(), Noted
     Ok(())
 }
 
+/// How many calls of the disk a record takes: those of a batch, and where the batch doesn't fit behind the others those of a fold before
+/// it. Makes none.
+pub fn calls_to_put<M: MetaDisk>(meta: &Meta<M>, note: MetaRecord) -> u64
+    ensures { (m : Meter) → IsMetered M.seen meta.now m →
+        (with_record (room_of M.seen meta.now) note m).calls ≡ m.calls + result }
+{
+    if meta.fits(&[note]) { 4 } else { 10 }
+}
+
 /// Puts a record into metadata, as a batch; where the batch doesn't fit behind the others, metadata is folded as it stands before it.
 /// A crash leaves what stood before, or that with the record. Answers how many calls of the disk were made: four, and six more where
 /// metadata was folded.
@@ -55,7 +64,7 @@ pub fn put_record<M: MetaDisk>(
     alloc: Global,
     meta: &mut Meta<M>,
     note: MetaRecord,
-) -> Result<u64, NotedStop>
+) -> Result<(), NotedStop>
     requires rests { IsResting M.seen M.may_leave meta.old }
     requires ids { (image : Said) → found M.seen meta.old ≡ Image image → HasGoodIds image }
     ensures rests { OnOk result (IsResting M.seen M.may_leave meta.new) }
@@ -69,16 +78,16 @@ pub fn put_record<M: MetaDisk>(
         LeavesNoRoom (generation_of meta.old) image note (room_of M.seen meta.old) }
     ensures not_log { IsErrOf result NotedStop.LogFull → ⊥ }
     ensures room { OnOk result (room_of M.seen meta.new ≡ room_of M.seen meta.old) }
-    ensures by { IfOk result (λ made. IsPutBy M.seen M.calls note made meta.old meta.new) }
+    ensures put { OnOk result (IsPut M.seen M.calls note meta.old meta.new) }
     ensures within { IsErrOf result NotedStop.MetaFailed →
         IsCalledWithin M.seen M.calls meta.old meta.new (with_record (room_of M.seen meta.old) note) }
 {
     let records = [note];
     if meta.fits(&records) {
         meta.put(alloc, &records)?;
-        return Ok(4);
+        return Ok(());
     }
     fold_same(alloc, meta)?;
     meta.put(alloc, &records)?;
-    Ok(10)
+    Ok(())
 }

@@ -130,7 +130,7 @@ impl<D: Mdisk, M: MetaDisk> Noted<D, M> {
         ensures lanes { KeepLanes self.old.store self.new.store }
         ensures live { self.new.live ≡ self.old.live }
     {
-        let _calls = put_record(self.alloc, &mut self.meta, note)?;
+        put_record(self.alloc, &mut self.meta, note)?;
         let UnderWay { place, doing, .. } = way;
         self.under_way = Some(UnderWay {
             place,
@@ -172,7 +172,7 @@ impl<D: Mdisk, M: MetaDisk> Noted<D, M> {
             self.data_step(way);
             return Ok(());
         }
-        let _calls = put_record(
+        put_record(
             self.alloc,
             &mut self.meta,
             MetaRecord::Pair {
@@ -216,7 +216,7 @@ impl<D: Mdisk, M: MetaDisk> Noted<D, M> {
         }
         remember(&mut self.marks, part.volume, grain)?;
         let volume = part.volume;
-        let _calls = put_record(
+        put_record(
             self.alloc,
             &mut self.meta,
             MetaRecord::Changing { volume, grain },

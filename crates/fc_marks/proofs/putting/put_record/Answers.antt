@@ -43,8 +43,8 @@ returns-clause-any_moment g c =
     c.in_ok-fold_same.ensures.found (ap (λ (f : Found). found_with f (c.args.note ∷ [])) c.in_ok-fold_same.ensures.found)
     c.in_ok-fold_same.ensures.any_moment c.in_ok-put-2.ensures.treats.any_moment
 
-pub returns-then-fits-clause-by : goal.returns-then-fits-clause-by
-returns-then-fits-clause-by g c =
+pub returns-then-fits-clause-put : goal.returns-then-fits-clause-put
+returns-then-fits-clause-put g c =
     was_put g.M.MetaDisk.seen g.M.MetaDisk.calls c.args.note c.args.meta.now c.put.new.self (sym c.fits.ensures ∙ c.if-fits.true)
     c.in_ok-put.ensures.found c.in_ok-put.ensures.head c.in_ok-put.ensures.treats.asks.counted
 
@@ -57,8 +57,8 @@ returns-in_err-put-clause-within g c =
 pub returns-clause-room : goal.returns-clause-room
 returns-clause-room g c = ap (λ (n : ℕ). n / 2) c.in_ok-put-2.ensures.treats.size ∙ c.in_ok-fold_same.ensures.room
 
-pub returns-clause-by : goal.returns-clause-by
-returns-clause-by g c =
+pub returns-clause-put : goal.returns-clause-put
+returns-clause-put g c =
     was_folded g.M.MetaDisk.seen g.M.MetaDisk.calls c.args.note c.args.meta.now c.fold_same.new.meta c.put-2.new.self (sym c.fits.ensures ∙ c.if-fits.false)
     c.in_ok-fold_same.ensures.found c.in_ok-fold_same.ensures.used c.in_ok-fold_same.ensures.counted
     c.in_ok-put-2.ensures.found c.in_ok-put-2.ensures.head c.in_ok-put-2.ensures.treats.asks.counted
