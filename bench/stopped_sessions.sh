@@ -18,10 +18,11 @@
 #   where that write failed. Otherwise the stop is counted as wrong;
 # - that it is just what docs/METADATA.md has for this call. Otherwise it is counted as elsewhere.
 #
-# That each stop falls on a call of the disk of metadata leaves none out: a step makes calls of the disks of data or of that of metadata, not
-# both, and a call of data finds metadata as the last record left it, with one grain of data as before or behind the call. That is what the
-# stop at the first call of the next record finds (its own write isn't behind an open gate yet), or at the last one of the record
-# before. And what a stop leaves of the writes since the last sync, all or nothing, goes by K alone, odd or even.
+# No stop is left out because each falls on a call of the disk of metadata. A step makes calls of the disks of data or of that of metadata,
+# not both. So a stop in calls of data finds metadata as the record before left it, and one grain of data as it was or as it becomes: the
+# one is found by the stop at the call that opens the gate of that record, the other by the stop at the first call of the next record, of
+# which metadata tells nothing yet. And what was written to the disk of metadata since its last sync, all or nothing, is left by K alone,
+# odd or even: so each record and each image is found by stops that have it and by stops that haven't.
 . "$(dirname -- "$(readlink -f -- "${BASH_SOURCE[0]}")")/common.sh"
 sessions=${1:-200}
 step=${2:-1}

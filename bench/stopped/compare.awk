@@ -93,7 +93,8 @@ function end_stop(   n) {
         wrong("stop " call_at ": behind " n " entries nothing like this may be found:\n" found_text)
     else if (call_at <= calls && (n != answered_at[call_at] || !is_text(found_at[call_at], found_text))) {
         elsewhere++
-        print "session " session ": stop " call_at ": may be found, but not here: " n " entries, and " answered_at[call_at] " by docs/METADATA.md"
+        print "session " session ": stop " call_at ": may be found, but not here (" n " entries, and " answered_at[call_at] \
+            " by docs/METADATA.md):\n" found_text
     }
 }
 

@@ -1,6 +1,6 @@
 # Draws a session by its number, so many lines: volumes of one to three grains, thin and flat, mappings between them in chains and rings,
 # some of them incremental, and then writes, starts, restores, stops, seconds that pass, and in two sessions of three armed faults; in one
-# of five a consistency group. Lines may be refused.
+# of four presets, in one of five a consistency group. Lines may be refused.
 #
 #     awk -v number=N -v lines=60 -f bench/stopped/draw.awk
 
@@ -36,9 +36,9 @@ function write_of(v, g,   block, count) {
 }
 
 function make_mapping(s, t, more) {
-    more = more " -copyrate " (made_mappings == 0 && happens(60) ? 100 : made_mappings == 1 ? 0 : one_of(rates)) " -cleanrate " one_of("0 0 50 100")
-    say("mkfcmap -source V" s " -target V" t more \
-        (happens(50) ? " -incremental" : "") (happens(6) ? " -autodelete" : ""))
+    more = more " -copyrate " (made_mappings == 0 && happens(60) ? 100 : made_mappings == 1 ? 0 : one_of(rates))
+    more = more " -cleanrate " one_of("0 0 50 100")
+    say("mkfcmap -source V" s " -target V" t more (happens(50) ? " -incremental" : "") (happens(6) ? " -autodelete" : ""))
     made_mappings++
 }
 
@@ -79,7 +79,17 @@ function stop_line(   kind) {
 
 function restore() { return happens(75) ? "-restore " : "" }
 
+# A new copy by one line.
+function preset() {
+    say("mkpreset -source " volume() " -preset " one_of("snapshot clone backup") " -name V" made_volumes++)
+    lately[starts++ % 3] = made_mappings++
+}
+
 function any_line(   kind) {
+    if (has_presets && happens(9)) {
+        preset()
+        return
+    }
     kind = below(100)
     if (kind < 36) write_of(volume(), below(grains))
     else if (kind < 39) say("read " volume() " " below(grains * 128) " 1")
@@ -103,6 +113,7 @@ BEGIN {
     grains = one_of("1 2 2 3")
     rates = one_of("0 0 10") " " one_of("0 10 100")
     has_group = number % 5 == 0
+    has_presets = number % 4 == 3
     for (v = 0; v < 4; v++) say("mkvdisk -name V" v " -size " 64 * grains " -unit kb" (happens(60) ? " -thin" : ""))
     made_volumes = 4
     if (has_group) say("mkfcconsistgrp -name g")

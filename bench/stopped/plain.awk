@@ -348,7 +348,6 @@ function force(m,   b, k, s, stops) {
     b = slot_of(m)
     find_dependents(b)
     for (s in leaves) if (s + 0 != b) stops[mapping_of[s]] = s + 0
-    # what each held is known before the first of them goes
     if (is_old[b]) take_out(b)
     else leave(m, b, 0)
     for (k in stops) leave(k + 0, stops[k], 0)
@@ -514,8 +513,6 @@ function found_with(other, byte,   v, text, had, kept) {
 }
 
 # ---- entries
-
-function is_lane_work(name) { return name == "read" || name == "write" || name == "copy" || name == "clean" }
 
 # Does an entry; the answer of an access is left in `answer`.
 function entry(   m, name) {
