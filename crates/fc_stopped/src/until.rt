@@ -257,7 +257,7 @@ fn run_noted<D: Mdisk, S: Source, K: Sink>(
     requires begun { history.old ≡ NoHistory }
     requires stands { (old : List DiskState) × IsOpened noted old × (length old ≤ vec_capacity disks.old) }
     requires none { disks.old.items ≡ [] }
-    ensures ends { (old : List DiskState) → IsOpened noted old → StopEnds call
+    ensures ends { (old : List DiskState) → IsOpened noted old → StopEnds call (room_of (λ (d : StopState). d.bytes) noted.meta)
         (record {
           status = result;
           source = S.meaning source.old;
@@ -306,7 +306,7 @@ pub fn run_over<D: Mdisk, S: Source, K: Sink>(
     requires fresh { All IsFresh (map D.meaning disks.old.items) }
     requires counted { 0 < call }
     requires zeros { (size : ℕ) × (meta ≡ new_stop size call) }
-    ensures ends { StopEnds call
+    ensures ends { StopEnds call (half_size meta.bytes)
         (record {
           status = result;
           source = S.meaning source.old;
@@ -357,7 +357,7 @@ pub fn run_until<D: Mdisk, S: Source, K: Sink>(
     requires few { vec_len disks.old < 2 ^ 30 }
     requires fresh { All IsFresh (map D.meaning disks.old.items) }
     requires counted { 0 < call }
-    ensures ends { StopEnds call
+    ensures ends { StopEnds call half_of_disk
         (record {
           status = result;
           source = S.meaning source.old;
