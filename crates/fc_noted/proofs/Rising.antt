@@ -19,7 +19,7 @@ use Rattle.fc_steps.specs.declared.stop.Stop.{Stop}
 
 -- by its steps
 counted_by : (l : LaneOf) (told : LaneTold) (ask : Ask) (x : ℕ) (made rest : List Move) (calls : ℕ) (stop : Option Stop) (written : Bool) (chains after : Chains) (old new : GrainsState) →
-    StepsCame l told ask x made rest calls stop written chains after old new → Counted old calls false new
+    StepsCame l told ask x made rest calls stop written chains old after new → Counted old calls false new
 counted_by l told ask x made rest calls None false chains after old new c = c.stands.counted
 counted_by l told ask x made rest calls None true chains after old new c = c.1.counted
 counted_by l told ask x made rest calls (Some stop) written chains after old new c = c.1.counted

@@ -2,7 +2,7 @@
 pub mod Adding
 pub mod Asking
 pub mod Slots
-pub mod DiskKinds
+pub mod KeptDisks
 pub mod Reading
 pub mod Parts
 pub mod States

@@ -14,11 +14,11 @@ use Rattle.fc_io.specs.Sink.{SinkState}
 use Rattle.fc_kept.specs.Disks.{NamedDisk}
 use Rattle.fc_recovered.specs.Recovered.{AreReadied, RecoveredState}
 use Rattle.fc_recovery_text.specs.Putting.{IsPutOr, ReadsPut, StateIsPut}
-use Rattle.fc_recovery_text.specs.Recovering.{AreRead, IsImageText, KeepKinds}
+use Rattle.fc_recovery_text.specs.Recovering.{AreRead, IsImageText, KeepDisks}
 use Rattle.fc_recovery_text.specs.Text.{answered_text, lines_text, rows_in}
 use Rattle.fc_recovery_text.specs.declared.state.Unwritten.{Unwritten}
 use Rattle.fc_recovery_text.specs.declared.state.Unwritten.TheVariants.{Failed, NoMemory}
-use Rattle.fc_recovery_text.proofs.DiskKinds.{keep_read, keep_readied, keep_then}
+use Rattle.fc_recovery_text.proofs.KeptDisks.{keep_read, keep_readied, keep_then}
 
 -- ---- a request and its answer
 
@@ -53,9 +53,9 @@ reads_over grain image made now mid after failed of_grain of_image r =
     subst (λ (g : GrainSize). AreRead g image (take r.count image.volumes) made.disks r.text now.disks) of_grain
     (subst (λ (m : MetaImage). AreRead made.grain m (take r.count m.volumes) made.disks r.text now.disks) of_image r.read)
 
-pub kinds_kept : (grain : GrainSize) (image : MetaImage) (disks : List (List NamedDisk)) (made now : RecoveredState) (mid after : SinkState) (failed : Bool) → made.grain ≡ grain → made.image ≡ image →
-    AreReadied grain image.volumes disks made.disks → ReadsPut made now mid failed after → KeepKinds disks now.disks
-kinds_kept grain image disks made now mid after failed of_grain of_image ready r =
+pub disks_kept : (grain : GrainSize) (image : MetaImage) (disks : List (List NamedDisk)) (made now : RecoveredState) (mid after : SinkState) (failed : Bool) → made.grain ≡ grain → made.image ≡ image →
+    AreReadied grain image.volumes disks made.disks → ReadsPut made now mid failed after → KeepDisks disks now.disks
+disks_kept grain image disks made now mid after failed of_grain of_image ready r =
     keep_then disks made.disks now.disks (keep_readied grain image.volumes disks made.disks ready)
     (keep_read grain image (take r.count image.volumes) made.disks r.text now.disks (reads_over grain image made now mid after failed of_grain of_image r))
 

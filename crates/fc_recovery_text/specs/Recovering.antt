@@ -73,8 +73,8 @@ IsFirstText grain (Damaged place) text = ⊥
 abbrev pub states_in : List (List NamedDisk) → ℕ → List DiskState
 states_in disks i = map (λ (d : NamedDisk). d.disk) (disks_at disks i)
 
-pub record KeepKinds (old new : List (List NamedDisk)) : Type 0 where
+pub record KeepDisks (old new : List (List NamedDisk)) : Type 0 where
   pub count : length new ≡ length old
-  pub each : (i : ℕ) → pool_of (states_in new i) ≡ pool_of (states_in old i)
+  pub kinds : (i : ℕ) → pool_of (states_in new i) ≡ pool_of (states_in old i)
   pub calls : (i : ℕ) → calls_of (states_in old i) ≤ calls_of (states_in new i)
   pub faults : (i : ℕ) → faults_of (states_in old i) ≤ faults_of (states_in new i)

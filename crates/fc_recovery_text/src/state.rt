@@ -11,7 +11,7 @@ ghost use Rattle.fc_image.specs.declared.image.MetaImage.{MetaImage as Said};
 ghost use Rattle.fc_kept.specs.Sound.{IsSoundImage};
 ghost use Rattle.fc_recovered.specs.Recovered.{CanRecover};
 ghost use Rattle.fc_report.specs.Asked.{asked};
-ghost use Rattle.fc_recovery_text.specs.Recovering.{IsFirstText, IsFound, IsFoundGood, IsImageText, IsStateText, KeepKinds};
+ghost use Rattle.fc_recovery_text.specs.Recovering.{IsFirstText, IsFound, IsFoundGood, IsImageText, IsStateText, KeepDisks};
 ghost use Rattle.fc_recovery_text.specs.declared.state.Unwritten.TheVariants.{Failed as SinkFailed, NoMemory as WantsMemory};
 ghost use Rattle.fc_recovery_text.specs.Putting.{IsPutOr, NextPut, ReadsPut, StateIsPut};
 ghost use Rattle.fc_recovery_text.specs.Text.{answered_text, lines_text, no_image, read_text, rows_in};
@@ -188,7 +188,7 @@ fn put_image<D: Mdisk, K: Sink>(
     sink: &mut K,
 ) -> (Vec<LaneDisks<D>>, Result<(), Unwritten>)
     requires { CanRecover grain image lanes.items }
-    ensures kinds { KeepKinds lanes.items result.0.items }
+    ensures kept { KeepDisks lanes.items result.0.items }
     ensures put { StateIsPut result.1 (λ text. IsImageText grain image lanes.items text result.0.items)
         (K.meaning sink.old) (K.meaning sink.new) }
 {
@@ -223,7 +223,7 @@ pub fn put_state<D: Mdisk, K: Sink>(
 ) -> (Vec<LaneDisks<D>>, Result<(), Unwritten>)
     requires good { IsFoundGood (recovered found.bytes) }
     requires can { (image : Said) → recovered found.bytes ≡ FoundImage image → CanRecover grain image lanes.items }
-    ensures kinds { KeepKinds lanes.items result.0.items }
+    ensures kept { KeepDisks lanes.items result.0.items }
     ensures put { StateIsPut result.1 (λ text. IsStateText grain (recovered found.bytes) lanes.items text result.0.items)
         (K.meaning sink.old) (K.meaning sink.new) }
 {

@@ -1,16 +1,16 @@
 use Rattle.std.proofs.Common.{ℕ, List, false, is_err, sym, subst}
 use Rattle.fc_entry.specs.Written.{Written}
 use Rattle.fc_kept.specs.Disks.{NamedDisk}
-use Rattle.fc_recovery_text.specs.Recovering.{IsImageText, KeepKinds}
+use Rattle.fc_recovery_text.specs.Recovering.{IsImageText, KeepDisks}
 use Rattle.fc_recovery_text.specs.Text.{lines_text, rows_in}
-use Rattle.fc_recovery_text.proofs.DiskKinds.{keep_handed_back}
-use Rattle.fc_recovery_text.proofs.Parts.{cut_in_reads, image_put, kinds_kept}
+use Rattle.fc_recovery_text.proofs.KeptDisks.{keep_handed_back}
+use Rattle.fc_recovery_text.proofs.Parts.{cut_in_reads, image_put, disks_kept}
 use Rattle.fc_recovery_text.proofs.state.put_image.Goals as goal
 
-pub returns-in-Ok-put_reads-clause-kinds : goal.returns-in-Ok-put_reads-clause-kinds
-returns-in-Ok-put_reads-clause-kinds g c =
-    subst (λ (z : List (List NamedDisk)). KeepKinds c.args.lanes.items z) (sym c.into_disks.ensures)
-    (kinds_kept c.args.grain c.args.image c.args.lanes.items c.in-Ok-new.recovered c.put_reads.new.recovered (g.K.Sink.meaning c.put_rows.new.sink) (g.K.Sink.meaning c.put_reads.new.sink) (is_err c.put_reads.result)
+pub returns-in-Ok-put_reads-clause-kept : goal.returns-in-Ok-put_reads-clause-kept
+returns-in-Ok-put_reads-clause-kept g c =
+    subst (λ (z : List (List NamedDisk)). KeepDisks c.args.lanes.items z) (sym c.into_disks.ensures)
+    (disks_kept c.args.grain c.args.image c.args.lanes.items c.in-Ok-new.recovered c.put_reads.new.recovered (g.K.Sink.meaning c.put_rows.new.sink) (g.K.Sink.meaning c.put_reads.new.sink) (is_err c.put_reads.result)
     c.in-Ok-new.ensures.grain c.in-Ok-new.ensures.image c.in-Ok-new.ensures.disks c.put_reads.ensures)
 
 pub returns-in-Ok-put_reads-clause-put : goal.returns-in-Ok-put_reads-clause-put
@@ -19,14 +19,14 @@ returns-in-Ok-put_reads-clause-put g c =
     (image_put c.args.grain c.args.image c.args.lanes.items c.in-Ok-new.recovered c.put_reads.new.recovered (g.K.Sink.meaning c.args.sink.now) (g.K.Sink.meaning c.put_rows.new.sink) (g.K.Sink.meaning c.put_reads.new.sink)
     c.in-Ok-new.ensures.grain c.in-Ok-new.ensures.image c.in-Ok-new.ensures.disks c.in-Ok.ensures c.in-Ok-put_reads.ensures)
 
-pub returns-in-Err-put_reads-clause-kinds : goal.returns-in-Err-put_reads-clause-kinds
-returns-in-Err-put_reads-clause-kinds g c =
-    subst (λ (z : List (List NamedDisk)). KeepKinds c.args.lanes.items z) (sym c.into_disks-in-Err-put_reads.ensures)
-    (kinds_kept c.args.grain c.args.image c.args.lanes.items c.in-Ok-new.recovered c.put_reads.new.recovered (g.K.Sink.meaning c.put_rows.new.sink) (g.K.Sink.meaning c.put_reads.new.sink) (is_err c.put_reads.result)
+pub returns-in-Err-put_reads-clause-kept : goal.returns-in-Err-put_reads-clause-kept
+returns-in-Err-put_reads-clause-kept g c =
+    subst (λ (z : List (List NamedDisk)). KeepDisks c.args.lanes.items z) (sym c.into_disks-in-Err-put_reads.ensures)
+    (disks_kept c.args.grain c.args.image c.args.lanes.items c.in-Ok-new.recovered c.put_reads.new.recovered (g.K.Sink.meaning c.put_rows.new.sink) (g.K.Sink.meaning c.put_reads.new.sink) (is_err c.put_reads.result)
     c.in-Ok-new.ensures.grain c.in-Ok-new.ensures.image c.in-Ok-new.ensures.disks c.put_reads.ensures)
 
-pub returns-in-Err-new-clause-kinds : goal.returns-in-Err-new-clause-kinds
-returns-in-Err-new-clause-kinds g c = keep_handed_back c.args.grain c.args.image.volumes c.args.lanes.items c.in-Err-new.lanes.items c.in-Err-new.ensures.back
+pub returns-in-Err-new-clause-kept : goal.returns-in-Err-new-clause-kept
+returns-in-Err-new-clause-kept g c = keep_handed_back c.args.grain c.args.image.volumes c.args.lanes.items c.in-Err-new.lanes.items c.in-Err-new.ensures.back
 
 pub returns-in-Err-put_reads-clause-put : goal.returns-in-Err-put_reads-clause-put
 returns-in-Err-put_reads-clause-put g c =
