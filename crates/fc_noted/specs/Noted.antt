@@ -38,7 +38,7 @@ use Rattle.law_noted.specs.Runs.{HasRun}
 use Rattle.fc_held.specs.Held.{HaveVolumes, MatchAll}
 use Rattle.fc_marks.specs.Marks.{marked}
 use Rattle.fc_marks.specs.Meter.{IsMetered, Meter}
-use Rattle.fc_noted.specs.Metered.{Metered, SoFar, after_actions}
+use Rattle.fc_noted.specs.Metered.{Acted, Metered, after_actions}
 use Rattle.fc_noted.specs.declared.noted.Noted.{Noted}
 use Rattle.fc_noted.specs.declared.noted.UnderWay.{UnderWay}
 
@@ -76,12 +76,13 @@ module _ {C D : Type 0} (seen : D → List ℕ) (may_leave : D → List ℕ → 
     pub is : IsMetered seen n.meta meter
     pub calls : n.calls ≡ more_calls meter.calls 0
 
-  -- And by the actions so far of an entry that is under way.
-  pub record CountsSoFar (n : Noted C D) (way : UnderWay) (entries : List Entry) (w : Whole) (steps : List DiskStep) : Type 0 where
+  -- And by the actions so far of an entry that is under way, which began with these rows of metadata and led to those.
+  pub record CountsSoFar (grain : GrainSize) (n : Noted C D) (way : UnderWay) (entries : List Entry) (w : Whole) (steps : List DiskStep) (rows now : List Row) : Type 0 where
     pub before : Meter
-    pub metered : Metered n.store.control.grain (room_of seen n.meta) entries w before
+    pub metered : Metered grain (room_of seen n.meta) entries w before
+    pub same : (kept_in before.image).rows ≡ rows
     pub actions : List Action
-    pub so_far : SoFar n.store.control.grain (kept_in before.image).rows (request_of way.doing.steps.ask) steps (steps_done way.doing.steps) way.doing.steps.stop way.due actions
+    pub acted : Acted grain (request_of way.doing.steps.ask) steps (steps_done way.doing.steps) way.doing.steps.stop way.due rows now actions
     pub is : IsMetered seen n.meta (after_actions (room_of seen n.meta) before actions)
     pub calls : n.calls ≡ more_calls (after_actions (room_of seen n.meta) before actions).calls 0
 
@@ -116,7 +117,7 @@ module _ {C D : Type 0} (seen : D → List ℕ) (may_leave : D → List ℕ → 
     pub point : Point
     pub came : Came begun.control.grain w (request_of way.doing.steps.ask) before.kept.rows steps before (steps_done way.doing.steps) way.doing.steps.stop way.due point
     pub keeps : Keeps begun.control.grain n.meta n w way.due point
-    pub counts : CountsSoFar n way history.entries w steps
+    pub counts : CountsSoFar begun.control.grain n way history.entries w steps before.kept.rows point.kept.rows
 
   abbrev pub IsAtBy : Option UnderWay → Noted C D → HistoryState → Whole → List Row → Type 0
   IsAtBy None n history w least = IsNotedAt n history w least
