@@ -43,3 +43,6 @@ mod CommandStops
 mod CommandLeads
 mod CommandLogs
 mod CommandEntry
+mod Metering
+mod MeteringHand
+mod MeteringSteps

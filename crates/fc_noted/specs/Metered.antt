@@ -1,5 +1,5 @@
 -- How many calls of its disk the metadata of a history costs, entry by entry.
-use Rattle.std.specs.Prelude.{◌≡◌, ◌≢◌, ℕ, List, [], ◌∷◌, ◌++◌, fold, Option, Some, None}
+use Rattle.std.specs.Prelude.{◌≡◌, ◌≢◌, ℕ, ◌+◌, List, [], ◌∷◌, ◌++◌, fold, length, Option, Some, None}
 use Rattle.fc_base.specs.declared.command.Command.{Command}
 use Rattle.fc_base.specs.declared.ids.VolId.{VolId}
 use Rattle.fc_base.specs.declared.request.Place.TheVariants.{Every}
@@ -11,16 +11,21 @@ use Rattle.fc_books.specs.Deciding.{IsLoopOf, settle}
 use Rattle.fc_changed.specs.Row.{Row}
 use Rattle.fc_entry.specs.declared.entry.Entry.{Entry}
 use Rattle.fc_image.specs.declared.image.MetaImage.{MetaImage}
-use Rattle.fc_kept.specs.Actions.{Action, Action.Data, Action.Note, Action.Fold, actions_of_command, actions_of_stop}
+use Rattle.fc_image.specs.declared.record.MetaRecord.{MetaRecord}
+use Rattle.fc_image.specs.declared.record.MetaRecord.TheVariants.{Torn as TornRecord}
+use Rattle.fc_kept.specs.Actions.{Action, Action.Data, Action.Note, Action.Fold, actions_of_command, actions_of_stop, mark_of}
 use Rattle.fc_kept.specs.Images.{kept_in}
-use Rattle.fc_kept.specs.Kept.{LostGrains}
+use Rattle.fc_kept.specs.Kept.{LostGrains, rows_kept}
 use Rattle.fc_kept.specs.Marks.{asked_write}
 use Rattle.fc_kept.specs.Prefix.{AreStepsOf}
 use Rattle.fc_legal.specs.Steps.{Step, after_settling, decided_on}
 use Rattle.fc_legal.specs.Whole.{Whole}
 use Rattle.fc_marks.specs.Meter.{Meter, filled_size, with_fold, with_record}
 use Rattle.fc_rules.specs.Steps.{DiskStep}
-use Rattle.law_crash.specs.Doing.{Tells, actions_of_steps, marks_by_move, number_of}
+use Rattle.fc_steps.specs.StepsEnd.{torn_in}
+use Rattle.fc_steps.specs.declared.stop.Stop.{Stop}
+use Rattle.fc_steps.specs.declared.stop.Stop.TheVariants.{Failed}
+use Rattle.law_crash.specs.Doing.{Tells, actions_of_step, actions_of_steps, marks_by_move, number_of}
 use Rattle.law_crash.specs.Leaving.{made_anew}
 use Rattle.law_crash.specs.Points.{nothing_kept}
 
@@ -51,6 +56,44 @@ pub data AreActionsOf (grain : GrainSize) (w : Whole) (rows : List Row) (entry :
   stopped : (front back : List DiskStep) (step : DiskStep) (torn : Option Torn) →
       AreStepsOf grain w entry.request (front ++ step ∷ back) → Tells entry.request None front torn entry →
       AreActionsOf grain w rows entry (actions_stopped grain rows entry.request front step torn)
+
+-- ---- an entry that is under way
+
+-- What actions make of metadata's rows.
+abbrev pub rows_by_action : List Row → Action → List Row
+rows_by_action rows (Data step) = rows
+rows_by_action rows (Note note) = rows_kept rows note
+rows_by_action rows Fold = rows
+
+abbrev pub rows_behind : List Row → List Action → List Row
+rows_behind rows actions = fold rows_by_action rows actions
+
+-- By how many steps were done, why the next one stopped, and the record that is due: the actions so far. The rows are those of metadata
+-- when the entry began.
+pub data SoFar (grain : GrainSize) (rows : List Row) (request : Request) (steps : List DiskStep) : ℕ → Option Stop → Option MetaRecord → List Action → Type 0 where
+  -- all actions of the steps that were done
+  behind : (front back : List DiskStep) → steps ≡ front ++ back →
+      SoFar grain rows request steps (length front) None None (actions_of_steps rows (number_of grain request) front)
+  -- and the mark of the write itself, which is next
+  marked : (front : List DiskStep) (own : DiskStep) → steps ≡ front ++ own ∷ [] → own.move ≡ None →
+      SoFar grain rows request steps (length front) None None
+      (actions_of_steps rows (number_of grain request) front ++ mark_of rows own.volume (number_of grain request))
+  -- all actions of them but the last record, which waits
+  waits : (front back : List DiskStep) (step : DiskStep) (first : List Action) (note : MetaRecord) → steps ≡ front ++ step ∷ back →
+      actions_of_step rows (number_of grain request) step ≡ first ++ Note note ∷ [] →
+      SoFar grain rows request steps (length front + 1) None (Some note) (actions_of_steps rows (number_of grain request) front ++ first)
+  -- a step stopped, and what it tore is noted
+  stopped : (front back : List DiskStep) (step : DiskStep) (stop : Stop) → steps ≡ front ++ step ∷ back →
+      SoFar grain rows request steps (length front) (Some stop) None (actions_stopped grain rows request front step (torn_in (Some stop)))
+  -- or it isn't yet
+  tears : (front back : List DiskStep) (step : DiskStep) (torn : Torn) → steps ≡ front ++ step ∷ back →
+      SoFar grain rows request steps (length front) (Some (Failed (Some torn))) (Some (TornRecord torn.volume torn.grain torn.side))
+      (actions_of_steps rows (number_of grain request) front ++ marks_by_move rows (number_of grain request) step step.move)
+
+-- The same, and the rows that metadata has behind them.
+pub record Acted (grain : GrainSize) (request : Request) (steps : List DiskStep) (n : ℕ) (stop : Option Stop) (due : Option MetaRecord) (rows now : List Row) (actions : List Action) : Type 0 where
+  pub so_far : SoFar grain rows request steps n stop due actions
+  pub rows_are : rows_behind rows actions ≡ now
 
 -- ---- a command
 

@@ -1,29 +1,23 @@
 -- The script that a line begins with, and why a command is refused.
-use Rattle.std.proofs.Common.{◌≡◌, ◌⊎◌, inl, inr, ℕ, ◌+◌, ◌-◌, ◌<◌, ◌≤◌, List, [], ◌∷◌, map, Contains, Option, Some, None, Ok, IfSome, IfNone, refl, sym, ◌∙◌, ap, ap₂, subst, arith}
+use Rattle.std.proofs.Common.{◌≡◌, ◌⊎◌, inl, inr, ℕ, ◌+◌, ◌-◌, ◌<◌, ◌≤◌, List, [], ◌∷◌, map, Option, Some, None, Result, Ok, Err, IfOk, IfNone, refl, sym, ◌∙◌, ap, subst, arith}
 use Rattle.fc_agenda.specs.Goes.{stays, passes}
 use Rattle.fc_base.specs.Tables.{Tables, refers_to, volume_named}
-use Rattle.fc_base.specs.declared.behind.Behind.{Behind}
-use Rattle.fc_base.specs.declared.behind.Behind.TheVariants.{Passing as PassingSeconds}
 use Rattle.fc_base.specs.declared.command.Command.{Command}
 use Rattle.fc_base.specs.declared.command.Command.TheVariants as command
 use Rattle.fc_base.specs.declared.command.Line.{Line}
 use Rattle.fc_base.specs.declared.command.Line.TheVariants.{Actor, Blank, Command as CommandLine, End, Together}
 use Rattle.fc_base.specs.declared.command.Preset.{Preset}
 use Rattle.fc_base.specs.declared.command.Role.{Role}
-use Rattle.fc_base.specs.declared.fault.Kind.TheVariants.{Vdisk}
 use Rattle.fc_base.specs.declared.fault.Refusal.{Refusal}
-use Rattle.fc_base.specs.declared.fault.Refusal.TheVariants.{NoSuch}
 use Rattle.fc_base.specs.declared.fault.WordFault.TheVariants.{UnknownCommand}
 use Rattle.fc_base.specs.declared.ids.VolId.{VolId}
 use Rattle.fc_base.specs.declared.name.Name.{Name}
 use Rattle.fc_base.specs.declared.name.Ref.{Ref}
-use Rattle.fc_base.specs.declared.request.Request.{Request}
+use Rattle.fc_base.specs.declared.outcome.NoMemory.{NoMemory}
 use Rattle.fc_base.specs.declared.request.Request.TheVariants.{Command as CommandAsked}
 use Rattle.fc_base.specs.declared.size.GrainSize.{GrainSize}
 use Rattle.fc_base.specs.declared.size.GrainSize.TheVariants.{K64, K256}
 use Rattle.fc_base.specs.declared.volume.Volume.{Volume}
-use Rattle.fc_books.specs.Books.{Books}
-use Rattle.fc_books.specs.Refused.{access_refused}
 use Rattle.fc_decided.proofs.Lists.{find_from}
 use Rattle.fc_entry.specs.Picture.{grain_of_block}
 use Rattle.fc_entry.specs.Refused.{blocks_refusal}
@@ -31,18 +25,16 @@ use Rattle.fc_lanes.specs.Asking.{command_of, part_of}
 use Rattle.fc_lanes.specs.declared.access.Access.{Access}
 use Rattle.fc_lanes.specs.declared.access.Access.TheVariants.{Read, Write}
 use Rattle.fc_legal.specs.Agenda.{Agenda, Own, Session, behind_command, line_read}
-use Rattle.fc_legal.specs.Asked.{command_asked, numbers, touched}
+use Rattle.fc_legal.specs.Asked.{command_asked, touched}
 use Rattle.fc_legal.specs.Whole.{Whole}
-use Rattle.fc_script.specs.Asking.{AreLeft, AsksItself, CanBeAsked, Fits}
+use Rattle.fc_script.specs.Asking.{AreLeft, AsksItself}
 use Rattle.fc_script.specs.Passage.{GoesOn}
-use Rattle.fc_script.specs.Script.{agenda_of, seconds_of}
-use Rattle.fc_script.specs.declared.asking.Asked.TheVariants.{Refused}
+use Rattle.fc_script.specs.Script.{agenda_of}
 use Rattle.fc_script.specs.declared.script.Script.{Script}
-use Rattle.fc_script.specs.declared.script.Script.TheVariants.{Over, Unread, Command as Alone, Parts}
+use Rattle.fc_script.specs.declared.script.Script.TheVariants.{Unread}
 use Rattle.fc_stands.specs.Phase.{IsDecided}
 use Rattle.fc_stands.specs.Store.{StandsFor, StoreView}
-use Rattle.fc_stands.proofs.Asked.{asked-refused, asks_itself, behind_unnamed, is_taken, preset_asks, preset_asks_itself, preset_unnamed, refusal_of}
-use Rattle.fc_store.specs.Answering.{IsStoreCommand}
+use Rattle.fc_stands.proofs.Asked.{is_taken, preset_asks}
 
 -- ---- why a command is refused
 
@@ -110,6 +102,17 @@ goes_to grain w a b is = subst (λ (x : Agenda). GoesOn grain w x a) is (λ read
 
 pub blank_begun : (grain : GrainSize) (w : Whole) → GoesOn grain w (line_read grain w (Ok Blank) []) (Session [])
 blank_begun grain w = λ read. passes refl stays
+
+-- What a line asks, as it was read, is what its script asks.
+abbrev pub BeginsBy : StoreView → Line → Result Script NoMemory → Type 0
+BeginsBy s line result =
+    IfOk result (λ (script : Script). (w : Whole) → StandsFor s w → GoesOn s.control.grain w (line_read s.control.grain w (Ok line) []) (agenda_of s.control.grain script))
+
+pub command_begun : (s : StoreView) (command : Command) (result : Result Script NoMemory) →
+    IfOk result (λ (script : Script). (w : Whole) → StandsFor s w → agenda_of s.control.grain script ≡ Own (command_asked s.control.grain w.books command) (behind_command w.books command) []) →
+    BeginsBy s (CommandLine command) result
+command_begun s command (Err e) is = tt
+command_begun s command (Ok script) is = λ w stands. goes_to s.control.grain w (agenda_of s.control.grain script) (line_read s.control.grain w (Ok (CommandLine command)) []) (is w stands)
 
 -- A line that belongs to a block of actors is read as an unknown command.
 pub unknown_begun : (grain : GrainSize) (w : Whole) (line : Line) → (line ≡ Together) ⊎ (((name : Name) × (role : Role) × (line ≡ Actor name role)) ⊎ (line ≡ End)) →

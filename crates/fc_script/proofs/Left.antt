@@ -1,7 +1,7 @@
 -- What is left behind an entry, script by script.
-use Rattle.std.proofs.Common.{◌≡◌, ℕ, zero, suc, ◌+◌, ◌-◌, ◌<◌, ◌≤◌, Bool, true, false, cond, List, [], ◌∷◌, map, Contains, Option, Some, None, Result, Ok, Err, OnOk, ◌⊎◌, inl, inr, refl, sym, ◌∙◌, ap, subst, arith}
+use Rattle.std.proofs.Common.{◌≡◌, ℕ, zero, suc, ◌+◌, ◌-◌, ◌<◌, ◌≤◌, Bool, true, false, cond, List, [], map, Contains, Option, Some, None, Result, Ok, Err, OnOk, ◌⊎◌, inl, inr, refl, sym, ap, subst, arith}
 use Rattle.std.specs.Option.{option_map}
-use Rattle.fc_agenda.specs.Goes.{Goes, stays, passes}
+use Rattle.fc_agenda.specs.Goes.{stays, passes}
 use Rattle.fc_base.specs.Tables.{Tables}
 use Rattle.fc_base.specs.declared.behind.Behind.TheVariants.{Passing as PassingSeconds}
 use Rattle.fc_base.specs.declared.command.Command.{Command}
@@ -9,7 +9,6 @@ use Rattle.fc_base.specs.declared.fault.WordFault.{WordFault}
 use Rattle.fc_base.specs.declared.ids.GrainNo.{GrainNo}
 use Rattle.fc_base.specs.declared.ids.VolId.{VolId}
 use Rattle.fc_base.specs.declared.outcome.NoMemory.{NoMemory}
-use Rattle.fc_base.specs.declared.request.Reply.{Reply}
 use Rattle.fc_base.specs.declared.request.Request.{Request}
 use Rattle.fc_base.specs.declared.size.GrainSize.{GrainSize}
 use Rattle.fc_base.specs.declared.volume.Volume.{Volume}
@@ -17,12 +16,12 @@ use Rattle.fc_entry.specs.declared.entry.Entry.{Entry}
 use Rattle.fc_lanes.specs.Asking.{part_of}
 use Rattle.fc_lanes.specs.declared.access.Access.{Access}
 use Rattle.fc_lanes.specs.declared.access.Access.TheVariants.{Read, Write}
-use Rattle.fc_legal.specs.Agenda.{Agenda, Asks, Own, Seconds, Session, behind_entry, behind_fill, behind_own, is_done, next_asked, session_rules}
+use Rattle.fc_legal.specs.Agenda.{Agenda, Asks, Own, Seconds, Session, behind_entry, behind_fill, behind_last, is_done}
 use Rattle.fc_legal.specs.Asked.{numbers}
 use Rattle.fc_legal.specs.Seconds.{Passing, Work, all_work, fill_of, has_moved, next_fill, seconds_begun}
-use Rattle.fc_legal.specs.Steps.{RequestStep, Step}
+use Rattle.fc_legal.specs.Steps.{RequestStep}
 use Rattle.fc_legal.specs.Whole.{Whole}
-use Rattle.fc_script.specs.Asking.{AreLeft, Fits, IsAnswer, IsLeft}
+use Rattle.fc_script.specs.Asking.{Fits, IsAnswer, IsLeft}
 use Rattle.fc_script.specs.Passage.{GoesOn, fill_grain, passing_of}
 use Rattle.fc_script.specs.Script.{agenda_of, seconds_of}
 use Rattle.fc_script.specs.declared.passage.Passage.{Passage}
@@ -31,10 +30,10 @@ use Rattle.fc_script.specs.declared.script.Script.TheVariants.{Over, Unread, Com
 use Rattle.fc_stands.specs.Store.{StandsFor, StoreView}
 
 -- Where nothing is asked there is no answer.
-abbrev nothing : Option (ℕ × Request)
+abbrev pub nothing : Option (ℕ × Request)
 nothing = None
 
-no_asked : (asked : ℕ × Request) → nothing ≡ Some asked → ⊥
+pub no_asked : (asked : ℕ × Request) → nothing ≡ Some asked → ⊥
 no_asked asked e = absurd (cc e)
 
 -- Behind the last request of a line that lets no second pass.
@@ -65,15 +64,11 @@ over_left grain w entry next answer = absurd (no_asked (entry.actor, entry.reque
 pub unread_left : (grain : GrainSize) (fault : WordFault) (w : Whole) (entry : Entry) (next : Whole) → IsLeft grain (Unread fault) w entry next Over
 unread_left grain fault w entry next = record { goes = none_behind grain next (is_done entry.reply); fits = λ fits. tt }
 
-pub alone_left : (grain : GrainSize) (command : Command) (w : Whole) (entry : Entry) (next : Whole) (new : Script) (seconds : ℕ) (done : Bool) →
-    seconds ≡ seconds_of command → done ≡ is_done entry.reply →
-    GoesOn grain next (cond done (Seconds (seconds_begun seconds (all_work next.books)) []) (Session [])) (agenda_of grain new) →
-    Fits grain next.books.tables new →
+pub alone_left : (grain : GrainSize) (command : Command) (w : Whole) (entry : Entry) (next : Whole) (new : Script) (seconds : ℕ) →
+    seconds ≡ seconds_of command → GoesOn grain next (behind_last next entry.reply (PassingSeconds seconds) []) (agenda_of grain new) → Fits grain next.books.tables new →
     IsLeft grain (Alone command) w entry next new
-alone_left grain command w entry next new seconds done is_seconds is_is_done goes fits = record {
-  goes =
-      let P : ℕ → Bool → Type 0 = λ n b. GoesOn grain next (cond b (Seconds (seconds_begun n (all_work next.books)) []) (Session [])) (agenda_of grain new) in
-      subst (λ (b : Bool). P (seconds_of command) b) is_is_done (subst (λ (n : ℕ). P n done) is_seconds goes);
+alone_left grain command w entry next new seconds is goes fits = record {
+  goes = subst (λ (n : ℕ). GoesOn grain next (behind_last next entry.reply (PassingSeconds n) []) (agenda_of grain new)) is goes;
   fits = λ old. fits;
 }
 

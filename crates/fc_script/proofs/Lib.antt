@@ -2,3 +2,4 @@ mod Fills
 mod Next
 mod Left
 mod Begun
+mod Presets

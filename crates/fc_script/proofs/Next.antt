@@ -1,5 +1,5 @@
 -- What is asked next, script by script.
-use Rattle.std.proofs.Common.{◌≡◌, ℕ, suc, ◌+◌, ◌-◌, ◌*◌, ◌<◌, ◌≤◌, Bool, true, false, cond, List, [], ◌∷◌, map, Option, Some, None, refl, sym, ◌∙◌, ap, subst, arith}
+use Rattle.std.proofs.Common.{◌≡◌, ℕ, suc, ◌+◌, ◌-◌, ◌*◌, ◌<◌, ◌≤◌, Bool, true, false, List, [], ◌∷◌, map, Option, Some, None, refl, sym, ◌∙◌, ap, subst, arith}
 use Rattle.std.specs.Option.{option_map}
 use Rattle.fc_agenda.specs.Goes.{stays}
 use Rattle.fc_base.specs.Grain.{grain_blocks}
@@ -17,12 +17,12 @@ use Rattle.fc_base.specs.declared.size.GrainSize.TheVariants.{K64, K256}
 use Rattle.fc_entry.specs.Picture.{grain_of_block}
 use Rattle.fc_lanes.specs.Asking.{part_of}
 use Rattle.fc_lanes.specs.declared.access.Access.{Access}
-use Rattle.fc_legal.specs.Agenda.{Agenda, Own, Seconds, Session, next_asked}
+use Rattle.fc_legal.specs.Agenda.{Own, next_asked}
 use Rattle.fc_legal.specs.Asked.{numbers}
-use Rattle.fc_legal.specs.Seconds.{Passing, Work, fill_at_hand, fill_of, next_fill, next_grain}
+use Rattle.fc_legal.specs.Seconds.{Work, fill_at_hand, fill_of, next_grain}
 use Rattle.fc_legal.specs.Whole.{Whole}
 use Rattle.fc_script.specs.Asking.{AreLeft, AsksItself, CanBeAsked, HasNextFill, IsNext, IsNextOf, TouchesGrain, fill_asked, request_of}
-use Rattle.fc_script.specs.Passage.{GoesOn, PassTo, PassesUpTo, before_pay, fill_grain, passing_of}
+use Rattle.fc_script.specs.Passage.{PassTo, PassesUpTo, before_pay, fill_grain, passing_of}
 use Rattle.fc_script.specs.Script.{agenda_of}
 use Rattle.fc_script.specs.declared.asking.Asked.{Asked}
 use Rattle.fc_script.specs.declared.asking.Asked.TheVariants.{Refused, Part}
@@ -32,13 +32,13 @@ use Rattle.fc_script.specs.declared.script.Script.TheVariants.{Over, Unread, Com
 use Rattle.fc_stands.specs.Store.{StandsFor, StoreView}
 use Rattle.fc_script.proofs.Fills.{fill_is, pass_over}
 
-the_same : (a b : Asked) → Some a ≡ Some b → a ≡ b
+pub the_same : (a b : Asked) → Some a ≡ Some b → a ≡ b
 the_same a b e = cc e
 
-abbrev none_asked : Option Asked
+abbrev pub none_asked : Option Asked
 none_asked = None
 
-no_other : (a : Asked) → none_asked ≡ Some a → ⊥
+pub no_other : (a : Asked) → none_asked ≡ Some a → ⊥
 no_other a e = absurd (cc e)
 
 -- As the call sees the script before and after.

@@ -1,5 +1,6 @@
 -- What is asked next, and how a script goes on.
-use Rattle.std.specs.Prelude.{◌≡◌, ℕ, ◌+◌, ◌-◌, ◌*◌, ◌<◌, ◌≤◌, Bool, cond, Contains, List, [], ◌∷◌, Option, Some, None}
+use Rattle.std.specs.Prelude.{◌≡◌, ℕ, ◌+◌, ◌-◌, ◌*◌, ◌<◌, ◌≤◌, cond, Contains, [], ◌∷◌, Option, Some, None}
+use Rattle.std.specs.List.{AllByRecursion}
 use Rattle.fc_base.specs.Grain.{grain_blocks}
 use Rattle.fc_base.specs.Tables.{Tables}
 use Rattle.fc_base.specs.declared.command.Command.{Command}
@@ -23,7 +24,7 @@ use Rattle.fc_script.specs.Script.{agenda_of}
 use Rattle.fc_script.specs.declared.asking.Asked.{Asked}
 use Rattle.fc_script.specs.declared.asking.Asked.TheVariants.{Command as Decided, Refused, Part, Fill}
 use Rattle.fc_script.specs.declared.script.Script.{Script}
-use Rattle.fc_script.specs.declared.script.Script.TheVariants.{Command as Alone, Parts, Seconds as Passes}
+use Rattle.fc_script.specs.declared.script.Script.TheVariants.{Command as Alone, Parts, Seconds as Passes, Lines}
 use Rattle.fc_stands.specs.Apart.{IsRefusalOf}
 use Rattle.fc_stands.specs.Phase.{IsDecided}
 use Rattle.fc_stands.specs.Store.{StandsFor, StoreView}
@@ -92,9 +93,11 @@ pub record AreLeft (grain : GrainSize) (t : Tables) (volume : VolId) (block coun
   pub upto : next ≤ last
   pub last_is : last ≡ grain_of_block grain (block + count - 1)
 
+-- The lines of a preset are decided by whatever tables.
 abbrev pub Fits : GrainSize → Tables → Script → Type 0
 Fits grain t (Alone command) = AsksItself grain t command
 Fits grain t (Parts access volume block count next last) = AreLeft grain t volume block count next last
+Fits grain t (Lines commands behind) = AllByRecursion IsDecided commands.items
 Fits grain t script = Unit {0}
 
 -- ---- what is asked next, and what is left behind its entry

@@ -1,5 +1,5 @@
 -- Seconds that pass, as contracts see them.
-use Rattle.std.specs.Prelude.{◌≡◌, ◌≢◌, ◌⊎◌, ℕ, ◌+◌, ◌*◌, Bool, true, false, cond, List, [], length, Option, Some, None, is_some}
+use Rattle.std.specs.Prelude.{◌≡◌, ◌≢◌, ◌⊎◌, ℕ, ◌+◌, ◌*◌, Bool, true, false, cond, [], length, Option, Some, None, is_some}
 use Rattle.std.specs.Option.{option_map}
 use Rattle.fc_agenda.specs.Goes.{Goes}
 use Rattle.fc_base.specs.Grain.{grain_kib}

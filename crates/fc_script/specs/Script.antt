@@ -1,5 +1,5 @@
 -- A script as an agenda.
-use Rattle.std.specs.Prelude.{ℕ, ◌+◌, ◌-◌, List, [], ◌∷◌, map}
+use Rattle.std.specs.Prelude.{ℕ, ◌+◌, ◌-◌, [], ◌∷◌, map}
 use Rattle.fc_base.specs.declared.behind.Behind.TheVariants.{Passing as PassingSeconds}
 use Rattle.fc_base.specs.declared.command.Command.{Command}
 use Rattle.fc_base.specs.declared.command.Command.TheVariants.{Advance}
@@ -10,7 +10,7 @@ use Rattle.fc_legal.specs.Agenda.{Agenda, Own, Seconds, Session}
 use Rattle.fc_legal.specs.Asked.{numbers}
 use Rattle.fc_script.specs.Passage.{passing_of}
 use Rattle.fc_script.specs.declared.script.Script.{Script}
-use Rattle.fc_script.specs.declared.script.Script.TheVariants.{Over, Unread, Command as Alone, Parts, Seconds as Passes}
+use Rattle.fc_script.specs.declared.script.Script.TheVariants.{Over, Unread, Command as Alone, Parts, Seconds as Passes, Lines}
 
 -- How many seconds a command lets pass if it is done.
 abbrev pub seconds_of : Command → ℕ
@@ -25,3 +25,4 @@ agenda_of grain (Alone command) = Own (CommandAsked command ∷ []) (PassingSeco
 agenda_of grain (Parts access volume block count next last) =
     Own (map (part_of grain access volume block count) (numbers next (last + 1 - next))) (PassingSeconds 0) []
 agenda_of grain (Passes passage) = Seconds (passing_of grain passage) []
+agenda_of grain (Lines commands behind) = Own (map (λ (command : Command). CommandAsked command) commands.items) behind []

@@ -1,6 +1,6 @@
 //! What a line still asks.
 
-ghost use Rattle.std.specs.Prelude.{◌≡◌, Ok, Some, None, cond, [], option_copied, IfOk, IfSome, IfNone, OnOk};
+ghost use Rattle.std.specs.Prelude.{◌≡◌, Ok, Some, None, cond, [], ◌∷◌, option_copied, IfOk, IfSome, IfNone, OnOk};
 ghost use Rattle.std.specs.Option.{option_map};
 ghost use Rattle.fc_base.specs.Tables.{Tables, volume_named};
 ghost use Rattle.fc_base.specs.declared.volume.Volume.{Volume};
@@ -8,8 +8,9 @@ ghost use Rattle.fc_books.specs.Books.{Books};
 ghost use Rattle.fc_books.specs.Refused.{access_refused};
 ghost use Rattle.fc_entry.specs.Refused.{blocks_refusal};
 ghost use Rattle.fc_base.specs.declared.size.GrainSize.{GrainSize};
-ghost use Rattle.fc_legal.specs.Agenda.{Own, Seconds as SecondsAgenda, Session, behind_command, line_read};
+ghost use Rattle.fc_legal.specs.Agenda.{Own, Seconds as SecondsAgenda, Session, behind_command, behind_last, line_read};
 ghost use Rattle.fc_legal.specs.Asked.{command_asked};
+ghost use Rattle.fc_legal.specs.Presets.{asked_behind};
 ghost use Rattle.fc_legal.specs.Seconds.{all_work, seconds_begun};
 ghost use Rattle.fc_legal.specs.Whole.{Whole};
 ghost use Rattle.fc_lanes.specs.Asking.{command_of};
@@ -19,16 +20,15 @@ ghost use Rattle.fc_script.specs.Script.{agenda_of, seconds_of};
 ghost use Rattle.fc_stands.specs.Apart.{IsRefusalOf};
 ghost use Rattle.fc_stands.specs.Phase.{IsDecided};
 ghost use Rattle.fc_stands.specs.Store.{StandsFor};
-ghost use Rattle.fc_store.specs.Answering.{IsStoreCommand, IsStoreLine};
 
 use crate::asking::Asked;
 use crate::passage::Passage;
 use fc_apart::log::{has_moved, is_done};
 use fc_base::behind::Behind;
-use fc_base::command::{Command, Line};
+use fc_base::command::{Command, Line, Preset};
 use fc_base::fault::{Kind, Refusal, WordFault};
 use fc_base::ids::{GrainNo, VolId};
-use fc_base::name::Ref;
+use fc_base::name::{Name, Ref};
 use fc_base::outcome::NoMemory;
 use fc_base::request::Request;
 use fc_copies::copy::copy_command;
@@ -37,7 +37,11 @@ use fc_lanes::access::Access;
 use fc_lanes::touched::touched_grains;
 use fc_lanes::work::Work;
 use fc_mdisk::mdisk::Mdisk;
+use fc_preset_lines::{Coming, asked_behind, volume_line};
 use fc_store::store::Store;
+use std::alloc::Global;
+use std::collections::VecDeque;
+use std::mem;
 
 /// What a line still asks.
 #[derive(Drop)]
@@ -59,6 +63,11 @@ pub enum Script {
     },
     /// The seconds of an `advance` that was done.
     Seconds(Passage),
+    /// These commands, one after the other, and what is asked behind the last of them: lines that stand in place of a preset.
+    Lines {
+        commands: VecDeque<Command>,
+        behind: Behind,
+    },
 }
 
 /// How many seconds a command lets pass if it is done.
@@ -164,6 +173,40 @@ fn behind_command<D: Mdisk>(store: &Store<D>, seconds: u32, done: bool) -> Resul
     }
 }
 
+/// What is left behind an answer, where these are asked behind it in place of a preset.
+fn lines_behind<D: Mdisk>(
+    store: &Store<D>,
+    behind: Behind,
+    entry: &Entry,
+) -> Result<Script, NoMemory>
+    ensures agenda { IfOk result (λ script. agenda_of store.now.control.grain script ≡ Own (asked_behind behind entry.now.reply).0 (asked_behind behind entry.now.reply).1 []) }
+    ensures fits { IfOk result (λ script. (grain : GrainSize) (t : Tables) → Fits grain t script) }
+{
+    match asked_behind(store.alloc(), behind, &entry.reply) {
+        Ok(Coming { commands, behind }) => Ok(Script::Lines {
+            commands: VecDeque::from(commands),
+            behind,
+        }),
+        Err(NoMemory) => Err(NoMemory),
+    }
+}
+
+/// What is left behind an answer of the last request of a line: its seconds, or other lines of a preset.
+fn behind_last<D: Mdisk>(
+    store: &Store<D>,
+    behind: Behind,
+    entry: &Entry,
+) -> Result<Script, NoMemory>
+    ensures goes { IfOk result (λ script. (w : Whole) → StandsFor store.now w →
+        GoesOn store.now.control.grain w (behind_last w entry.now.reply behind []) (agenda_of store.now.control.grain script)) }
+    ensures fits { IfOk result (λ script. (grain : GrainSize) (t : Tables) → Fits grain t script) }
+{
+    match behind {
+        Behind::Passing(seconds) => behind_command(store, seconds, is_done(entry)),
+        other => lines_behind(store, other, entry),
+    }
+}
+
 /// An access in all grains that it touches; or itself, where it is refused.
 fn of_access<D: Mdisk>(
     store: &Store<D>,
@@ -193,45 +236,97 @@ fn of_access<D: Mdisk>(
     }
 }
 
-/// A command: an access in its grains, and any other as it is.
-fn of_command<D: Mdisk>(store: &Store<D>, command: Command) -> Script
+/// This command, and this behind it.
+fn one_line(alloc: Global, command: Command, behind: Behind) -> Result<Script, NoMemory>
+    requires decided { IsDecided command }
+    ensures agenda { IfOk result (λ script. (grain : GrainSize) → agenda_of grain script ≡ Own (Request.Command command ∷ []) behind []) }
+    ensures fits { IfOk result (λ script. (grain : GrainSize) (t : Tables) → Fits grain t script) }
+{
+    let mut commands = VecDeque::new(alloc);
+    match commands.push_back(command) {
+        Ok(()) => Ok(Script::Lines { commands, behind }),
+        Err(_) => Err(NoMemory),
+    }
+}
+
+/// A preset: a volume as large as its source first, and then the rest; or itself, where its source names no volume, which refuses it.
+fn of_preset<D: Mdisk>(
+    store: &Store<D>,
+    source: Ref,
+    preset: Preset,
+    name: Option<Name>,
+) -> Result<Script, NoMemory>
     requires stands { (w : Whole) × StandsFor store.now w }
-    requires own { IsStoreCommand store.now.control.tables command }
-    ensures agenda { (w : Whole) → StandsFor store.now w →
-        agenda_of store.now.control.grain result ≡ Own (command_asked store.now.control.grain w.books command) (behind_command w.books command) [] }
-    ensures fits { Fits store.now.control.grain store.now.control.tables result }
+    ensures agenda { IfOk result (λ script. (w : Whole) → StandsFor store.now w →
+        agenda_of store.now.control.grain script
+        ≡ Own (command_asked store.now.control.grain w.books (Command.Mkpreset source preset name)) (behind_command w.books (Command.Mkpreset source preset name)) []) }
+    ensures fits { IfOk result (λ script. Fits store.now.control.grain store.now.control.tables script) }
+{
+    let Some(volume) = store.registry().volume(&source) else {
+        return Ok(Script::Command(Command::Mkpreset {
+            source,
+            preset,
+            name,
+        }));
+    };
+    match volume_line(store.alloc(), store.grain(), preset, &name, volume) {
+        Ok(line) => one_line(
+            store.alloc(),
+            line,
+            Behind::Mapping {
+                source,
+                preset,
+                name,
+            },
+        ),
+        Err(NoMemory) => Err(NoMemory),
+    }
+}
+
+/// A command: an access in its grains, a preset by its lines, and any other as it is.
+fn of_command<D: Mdisk>(store: &Store<D>, command: Command) -> Result<Script, NoMemory>
+    requires stands { (w : Whole) × StandsFor store.now w }
+    ensures agenda { IfOk result (λ script. (w : Whole) → StandsFor store.now w →
+        agenda_of store.now.control.grain script ≡ Own (command_asked store.now.control.grain w.books command) (behind_command w.books command) []) }
+    ensures fits { IfOk result (λ script. Fits store.now.control.grain store.now.control.tables script) }
 {
     match command {
         Command::Read {
             volume,
             block,
             count,
-        } => of_access(store, Access::Read, volume, block, count),
+        } => Ok(of_access(store, Access::Read, volume, block, count)),
         Command::Write {
             volume,
             block,
             count,
             byte,
-        } => of_access(store, Access::Write(byte), volume, block, count),
-        other => Script::Command(other),
+        } => Ok(of_access(store, Access::Write(byte), volume, block, count)),
+        Command::Mkpreset {
+            source,
+            preset,
+            name,
+        } => of_preset(store, source, preset, name),
+        other => Ok(Script::Command(other)),
     }
 }
 
 impl Script {
-    /// All that a line asks, as it was read: nothing of a blank one, an access in its grains, any other command itself. A line that
-    /// belongs to a block of actors is an unknown command; a preset is taken only where its source names no volume, which refuses it.
-    pub fn of_line<D: Mdisk>(store: &Store<D>, line: Line) -> Script
+    /// All that a line asks, as it was read: nothing of a blank one, an access in its grains, a preset the lines that stand in its
+    /// place, any other command itself. A line that belongs to a block of actors is an unknown command.
+    ///
+    /// `NoMemory` where memory was wanted for the lines of a preset.
+    pub fn of_line<D: Mdisk>(store: &Store<D>, line: Line) -> Result<Script, NoMemory>
         requires stands { (w : Whole) × StandsFor store.now w }
-        requires own { IsStoreLine store.now.control.tables line }
-        ensures agenda { (w : Whole) → StandsFor store.now w →
-            GoesOn store.now.control.grain w (line_read store.now.control.grain w (Ok line) []) (agenda_of store.now.control.grain result) }
-        ensures fits { Fits store.now.control.grain store.now.control.tables result }
+        ensures agenda { IfOk result (λ script. (w : Whole) → StandsFor store.now w →
+            GoesOn store.now.control.grain w (line_read store.now.control.grain w (Ok line) []) (agenda_of store.now.control.grain script)) }
+        ensures fits { IfOk result (λ script. Fits store.now.control.grain store.now.control.tables script) }
     {
         match line {
-            Line::Blank => Script::Over,
+            Line::Blank => Ok(Script::Over),
             Line::Command(command) => of_command(store, command),
             Line::Together | Line::Actor { .. } | Line::End => {
-                Script::Unread(WordFault::UnknownCommand)
+                Ok(Script::Unread(WordFault::UnknownCommand))
             }
         }
     }
@@ -276,13 +371,23 @@ impl Script {
                 }
                 Err(NoMemory) => Err(NoMemory),
             },
+            Script::Lines { commands, .. } => match commands.front() {
+                Some(command) => match ask_command(store, command) {
+                    Ok(asked) => Ok(Some(asked)),
+                    Err(NoMemory) => Err(NoMemory),
+                },
+                None => {
+                    *self = Script::Over;
+                    Ok(None)
+                }
+            },
         }
     }
 
     /// Goes on behind the entry that answered what was asked last; the store is as it is after it. A grain that was read, written,
-    /// copied or cleaned is behind it; a fill that moved nothing ends the second of its work; and behind an `advance` that is done
-    /// its seconds begin, with the background work of the store. `NoMemory` where memory was wanted for that; then nothing is said of
-    /// the script.
+    /// copied or cleaned is behind it; a fill that moved nothing ends the second of its work; behind an `advance` that is done its
+    /// seconds begin, with the background work of the store; and behind a line of a preset those are left that follow its answer.
+    /// `NoMemory` where memory was wanted for that; then nothing is said of the script.
     pub fn answered<D: Mdisk>(&mut self, store: &Store<D>, entry: &Entry) -> Result<(), NoMemory>
         requires stands { (w : Whole) × StandsFor store.now w }
         ensures { OnOk result ((w : Whole) (next : Whole) → IsAnswer store.now.control.grain self.old w entry.now next → StandsFor store.now next →
@@ -294,8 +399,8 @@ impl Script {
                 Ok(())
             }
             Script::Command(command) => {
-                let seconds = seconds_of(command);
-                match behind_command(store, seconds, is_done(entry)) {
+                let behind = Behind::Passing(seconds_of(command));
+                match behind_last(store, behind, entry) {
                     Ok(script) => {
                         *self = script;
                         Ok(())
@@ -312,6 +417,20 @@ impl Script {
                 Ok(())
             }
             Script::Seconds(passage) => passage.follow(store, has_moved(entry)),
+            Script::Lines { commands, behind } => {
+                let _answered = commands.pop_front();
+                if !commands.is_empty() {
+                    return Ok(());
+                }
+                let behind = mem::replace(behind, Behind::Passing(0));
+                match behind_last(store, behind, entry) {
+                    Ok(script) => {
+                        *self = script;
+                        Ok(())
+                    }
+                    Err(NoMemory) => Err(NoMemory),
+                }
+            }
         }
     }
 

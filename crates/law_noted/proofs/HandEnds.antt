@@ -239,7 +239,7 @@ module _ (grain : GrainSize) (w : Whole) (least : List Row) (place : ℕ) (doing
       ends.0 ∙ (ap (λ (z : Spot). moves_of (steps_asked l z s.ask at)) spot_same
       ∙ ap moves_of (steps_split l spot s.ask at ∙ sym (steps_are grain w least place doing begun now steps before q h)))
 
-  all_counted : s.stop ≡ None → steps_done s ≡ length steps
+  pub all_counted : s.stop ≡ None → steps_done s ≡ length steps
   all_counted none =
       let own : List DiskStep = owns_asked grain spot s.ask at in
       let is : length steps ≡ length ks + length own =
@@ -268,7 +268,7 @@ module _ (grain : GrainSize) (w : Whole) (least : List Row) (place : ℕ) (doing
         no_effects = x.no_effects;
       }
 
-  tells_whole : s.stop ≡ None → Tells entry.request (asked_write entry.request) steps None entry
+  pub tells_whole : s.stop ≡ None → Tells entry.request (asked_write entry.request) steps None entry
   tells_whole none =
       let t = told_whole none in
       record { request_is = refl; written = t.written ∙ sym (ap asked_write x.request); moves = t.moves; torn_is = t.torn_is; no_effects = t.no_effects }
@@ -296,7 +296,7 @@ module _ (grain : GrainSize) (w : Whole) (least : List Row) (place : ℕ) (doing
         no_effects = x.no_effects;
       }
 
-  tells_stopped : (stop : Stop) → s.stop ≡ Some stop → Tells entry.request None (take (steps_done s) steps) (torn_in (Some stop)) entry
+  pub tells_stopped : (stop : Stop) → s.stop ≡ Some stop → Tells entry.request None (take (steps_done s) steps) (torn_in (Some stop)) entry
   tells_stopped stop e =
       let t = told_stopped stop e in record { request_is = refl; written = t.written; moves = t.moves; torn_is = t.torn_is; no_effects = t.no_effects }
 

@@ -195,7 +195,7 @@ module _ (grain : GrainSize) (w : Whole) (least : List Row) (place : ℕ) (doing
   none_stopped None es = es
   none_stopped (Some stop) es = absurd (never_stops stop es)
 
-  goes_on : end.stop ≡ None
+  pub goes_on : end.stop ≡ None
   goes_on = none_stopped end.stop refl
 
   -- ---- what goes along

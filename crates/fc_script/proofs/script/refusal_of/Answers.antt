@@ -1,5 +1,5 @@
 -- A command that asks for itself is refused, or is no access and no preset.
-use Rattle.std.proofs.Common.{Some, IfNone, option_copied, ap, subst, sym, ◌≡◌, ◌∙◌}
+use Rattle.std.proofs.Common.{IfNone, option_copied, ap, subst, sym, ◌∙◌}
 use Rattle.fc_base.specs.Tables.{Tables, volume_named}
 use Rattle.fc_base.specs.declared.command.Command.{Command}
 use Rattle.fc_lanes.specs.declared.access.Access.TheVariants.{Read, Write}

@@ -1,4 +1,3 @@
-use Rattle.std.proofs.Common.{ℕ}
 use Rattle.fc_legal.specs.Whole.{Whole}
 use Rattle.fc_script.specs.Passage.{PassTo, passing_of}
 use Rattle.fc_stands.specs.Store.{StandsFor}

@@ -1,4 +1,4 @@
-use Rattle.std.proofs.Common.{◌≡◌, ℕ}
+use Rattle.std.proofs.Common.{◌≡◌}
 use Rattle.fc_legal.specs.Whole.{Whole}
 use Rattle.fc_script.specs.Passage.{PassTo, passing_of, turns_in}
 use Rattle.fc_stands.specs.Store.{StandsFor}

@@ -1,5 +1,5 @@
 -- Script by script.
-use Rattle.std.proofs.Common.{◌≡◌, Option, Some, None, refl, subst, sym}
+use Rattle.std.proofs.Common.{Option, Some, None, refl, subst, sym, arith}
 use Rattle.fc_base.specs.declared.fault.Refusal.TheVariants.{Words}
 use Rattle.fc_base.specs.declared.ids.GrainNo.{GrainNo}
 use Rattle.fc_base.specs.declared.request.Request.TheVariants.{Unread as UnreadAsked}
@@ -7,8 +7,9 @@ use Rattle.fc_script.specs.Asking.{Fits, IsNextOf}
 use Rattle.fc_script.specs.Passage.{PassesUpTo}
 use Rattle.fc_script.specs.declared.asking.Asked.TheVariants.{Refused, Part}
 use Rattle.fc_script.specs.declared.script.Script.{Script}
-use Rattle.fc_script.specs.declared.script.Script.TheVariants.{Over, Unread, Command as Alone, Parts, Seconds as Passes}
+use Rattle.fc_script.specs.declared.script.Script.TheVariants.{Over, Unread, Command as Alone, Parts, Seconds as Passes, Lines}
 use Rattle.fc_script.proofs.Next.{alone_next, next_as, over_next, parts_next, seconds_next, seconds_over, unread_next}
+use Rattle.fc_script.proofs.Presets.{first_asks_itself, lines_next, no_lines_next}
 use Rattle.fc_script.proofs.script.Script.next.Goals as goal
 
 pub returns-in-Over : goal.returns-in-Over
@@ -43,3 +44,20 @@ returns-in-Ok-None g c =
     subst (λ (x : Script). IsNextOf c.args.store.now x Over None) (sym c.in-Seconds.is)
     (seconds_over c.args.store.now c.in-Seconds.passage c.pass.new.self c.in-Ok-None.ensures.passed
     (λ w stands. subst (λ (o : Option GrainNo). PassesUpTo c.args.store.now.control.grain w o c.pass.new.self) c.in-Ok-None.field-0-is (c.in-Ok-None.ensures.upto w stands)))
+
+pub ask_command-requires-in-Some-clause-itself : goal.ask_command-requires-in-Some-clause-itself
+ask_command-requires-in-Some-clause-itself g c =
+    first_asks_itself c.args.store.now c.in-Lines.commands c.in-Lines.behind c.in-Some.command.now (omega (arith, c.in-Some.ensures.variant.0 refl)) c.in-Some.ensures.lookup
+    (subst (λ (x : Script). Fits c.args.store.now.control.grain c.args.store.now.control.tables x) c.in-Lines.is c.requires.fits)
+
+pub returns-in-Ok-ask_command : goal.returns-in-Ok-ask_command
+returns-in-Ok-ask_command g c =
+    subst (λ (x : Script). IsNextOf c.args.store.now x (Lines c.in-Lines.commands c.in-Lines.behind) (Some c.in-Ok-ask_command.asked)) (sym c.in-Lines.is)
+    (lines_next c.args.store.now c.in-Lines.commands c.in-Lines.behind c.in-Some.command.now (omega (arith, c.in-Some.ensures.variant.0 refl)) c.in-Some.ensures.lookup
+    (subst (λ (x : Script). Fits c.args.store.now.control.grain c.args.store.now.control.tables x) c.in-Lines.is c.requires.fits)
+    c.in-Ok-ask_command.asked c.in-Ok-ask_command.ensures.request c.in-Ok-ask_command.ensures.can c.in-Ok-ask_command.ensures.no_fill)
+
+pub returns-in-None : goal.returns-in-None
+returns-in-None g c =
+    subst (λ (x : Script). IsNextOf c.args.store.now x Over None) (sym c.in-Lines.is)
+    (no_lines_next c.args.store.now c.in-Lines.commands c.in-Lines.behind (λ some. absurd (cc (c.in-None.ensures.variant.1 (omega (arith, some))))))
