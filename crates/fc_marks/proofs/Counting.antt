@@ -14,8 +14,8 @@ use Rattle.fc_meta.specs.declared.meta.Meta.{Meta}
 
 -- ---- counts
 
-pub none_made : (most old new : ℕ) → new ≡ old → IsCalledUpTo most old new
-none_made most old new e = (0, e, omega arith)
+pub few_made : (made most old new : ℕ) → made ≤ most → new ≡ more_calls made old → IsCalledUpTo most old new
+few_made made most old new le e = (made, e, le)
 
 -- of so many calls that were cut short
 pub some_made : (most old new : ℕ) → IsStopped most old new → IsCalledUpTo most old new

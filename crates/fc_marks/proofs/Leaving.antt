@@ -64,10 +64,6 @@ was_full Full told = refl
 was_full Failed told = absurd cc
 was_full NoMemory told = absurd cc
 
--- an error is the same in place of any answer
-pub same_error : {T A E : Type 0} (e told : E) → IsErrOf {T = T} (Err e) told → IsErrOf {T = A} (Err e) told
-same_error e told is = cc
-
 -- a count that stood still first has risen since
 pub has_risen : (old mid new : ℕ) → mid ≡ old → HasRisen mid new → HasRisen old new
 has_risen old mid new e risen = subst (λ (n : ℕ). HasRisen n new) e risen

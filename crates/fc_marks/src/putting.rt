@@ -1,6 +1,6 @@
 //! A record is put into metadata.
 
-ghost use Rattle.std.specs.Prelude.{◌≡◌, ◌+◌, ◌∷◌, [], length, OnOk, IfOk, IsErrOf};
+ghost use Rattle.std.specs.Prelude.{◌≡◌, ◌+◌, ◌∷◌, [], length, OnOk, OnErr, IsErrOf};
 ghost use Rattle.fc_base.specs.Count.{HasRisen};
 ghost use Rattle.fc_format.specs.Bytes.{half_bytes};
 ghost use Rattle.fc_format.specs.Halves.{Image};
@@ -28,7 +28,7 @@ fn fold_same<M: MetaDisk>(alloc: Global, meta: &mut Meta<M>) -> Result<(), Noted
     ensures found { OnOk result (found M.seen meta.new ≡ found M.seen meta.old) }
     ensures used { OnOk result ((image : Said) → found M.seen meta.old ≡ Image image →
         used_of meta.new ≡ length (half_bytes (generation_of meta.old + 1) image)) }
-    ensures room { OnOk result (room_of M.seen meta.new ≡ room_of M.seen meta.old) }
+    ensures room { room_of M.seen meta.new ≡ room_of M.seen meta.old }
     ensures any_moment { LeavesOnly M.moment M.left_since (disk_of meta.old) (disk_of meta.new)
         (LeavesEither (found M.seen meta.old) (found M.seen meta.old)) }
     ensures quiet { OnOk result (M.fault_count (disk_of meta.new) ≡ M.fault_count (disk_of meta.old)) }
@@ -38,8 +38,7 @@ fn fold_same<M: MetaDisk>(alloc: Global, meta: &mut Meta<M>) -> Result<(), Noted
         PassesHalf (generation_of meta.old) image (room_of M.seen meta.old) }
     ensures not_log { IsErrOf result NotedStop.LogFull → ⊥ }
     ensures counted { OnOk result (M.calls (disk_of meta.new) ≡ more_calls 6 (M.calls (disk_of meta.old))) }
-    ensures within { IsErrOf result NotedStop.MetaFailed →
-        IsCalledUpTo 6 (M.calls (disk_of meta.old)) (M.calls (disk_of meta.new)) }
+    ensures within { OnErr result (IsCalledUpTo 6 (M.calls (disk_of meta.old)) (M.calls (disk_of meta.new))) }
 {
     let image = meta.image(alloc)?;
     meta.fold(alloc, &image)?;
@@ -56,8 +55,8 @@ pub fn calls_to_put<M: MetaDisk>(meta: &Meta<M>, note: MetaRecord) -> u64
 }
 
 /// Puts a record into metadata, as a batch; where the batch doesn't fit behind the others, metadata is folded as it stands before it.
-/// A crash leaves what stood before, or that with the record. Answers how many calls of the disk were made: four, and six more where
-/// metadata was folded.
+/// A crash leaves what stood before, or that with the record. It makes as many calls of the disk as the record costs, and behind an error
+/// at most so many.
 ///
 /// MetaFull where the image doesn't fit a half, or leaves no room in it for the batch.
 pub fn put_record<M: MetaDisk>(
@@ -77,10 +76,10 @@ pub fn put_record<M: MetaDisk>(
     ensures full { IsErrOf result NotedStop.MetaFull → (image : Said) → found M.seen meta.old ≡ Image image →
         LeavesNoRoom (generation_of meta.old) image note (room_of M.seen meta.old) }
     ensures not_log { IsErrOf result NotedStop.LogFull → ⊥ }
-    ensures room { OnOk result (room_of M.seen meta.new ≡ room_of M.seen meta.old) }
+    ensures room { room_of M.seen meta.new ≡ room_of M.seen meta.old }
     ensures put { OnOk result (IsPut M.seen M.calls note meta.old meta.new) }
-    ensures within { IsErrOf result NotedStop.MetaFailed →
-        IsCalledWithin M.seen M.calls meta.old meta.new (with_record (room_of M.seen meta.old) note) }
+    ensures within { OnErr result
+        (IsCalledWithin M.seen M.calls meta.old meta.new (with_record (room_of M.seen meta.old) note)) }
 {
     let records = [note];
     if meta.fits(&records) {

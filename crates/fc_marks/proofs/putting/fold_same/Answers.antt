@@ -1,9 +1,9 @@
-use Rattle.std.proofs.Common.{ℕ, ◌/◌, ap, ◌∙◌, subst}
+use Rattle.std.proofs.Common.{inl, inr, ℕ, ◌/◌, ap, ◌∙◌, subst, arith}
 use Rattle.std.proofs.lemmas.Result.{err_from_is_err_and}
 use Rattle.fc_format.specs.Halves.{half_size}
 use Rattle.fc_meta.specs.Answers.{more_calls}
 use Rattle.fc_meta.specs.States.{disk_of}
-use Rattle.fc_marks.proofs.Counting.{none_made, some_made}
+use Rattle.fc_marks.proofs.Counting.{few_made, some_made}
 use Rattle.fc_marks.proofs.Leaving.{read_then, has_failed, was_full, has_risen, fold_used, fold_full}
 use Rattle.fc_marks.specs.Meter.{IsCalledUpTo}
 use Rattle.fc_marks.proofs.putting.fold_same.Goals as goal
@@ -43,10 +43,20 @@ returns-clause-counted g c = c.in_ok-fold.ensures.treats.asks.counted ∙ ap (mo
 pub returns-in_err-fold-clause-within : goal.returns-in_err-fold-clause-within
 returns-in_err-fold-clause-within g c =
     let p = err_from_is_err_and c.from_residual-in_err-fold.result c.from_residual-in_err-fold.ensures.1 in
-    rw (p.1, p.2) (λ told. subst (λ (n : ℕ). IsCalledUpTo 6 n (g.M.MetaDisk.calls (disk_of c.fold.new.self))) c.in_ok-image.ensures.calls
-    (some_made 6 (g.M.MetaDisk.calls (disk_of c.image.new.self)) (g.M.MetaDisk.calls (disk_of c.fold.new.self)) (c.in_err-fold.ensures.treats.asks.stopped (has_failed c.in_err-fold.field-0.0 told))))
+    let mid : ℕ = g.M.MetaDisk.calls (disk_of c.image.new.self) in
+    let now : ℕ = g.M.MetaDisk.calls (disk_of c.fold.new.self) in
+    rw p.1 (subst (λ (n : ℕ). IsCalledUpTo 6 n now) c.in_ok-image.ensures.calls (elim c.in_err-fold.ensures.stays [
+      | inl told ↦ some_made 6 mid now (c.in_err-fold.ensures.treats.asks.stopped told)
+      | inr stays ↦ few_made 2 6 mid now (omega arith) stays.5
+    ]))
 
 pub returns-in_err-image-clause-within : goal.returns-in_err-image-clause-within
 returns-in_err-image-clause-within g c =
     let p = err_from_is_err_and c.from_residual.result c.from_residual.ensures.1 in
-    rw (p.1, p.2) (λ told. none_made 6 (g.M.MetaDisk.calls (disk_of c.args.meta.now)) (g.M.MetaDisk.calls (disk_of c.image.new.self)) c.in_err-image.ensures.calls)
+    rw p.1 (few_made 0 6 (g.M.MetaDisk.calls (disk_of c.args.meta.now)) (g.M.MetaDisk.calls (disk_of c.image.new.self)) (omega arith) c.in_err-image.ensures.calls)
+
+pub returns-in_err-image-clause-room : goal.returns-in_err-image-clause-room
+returns-in_err-image-clause-room g c = ap half_size c.in_err-image.ensures.seen
+
+pub returns-in_err-fold-clause-room : goal.returns-in_err-fold-clause-room
+returns-in_err-fold-clause-room g c = ap (λ (n : ℕ). n / 2) c.in_err-fold.ensures.treats.size ∙ ap half_size c.in_ok-image.ensures.seen

@@ -1,12 +1,11 @@
-use Rattle.std.proofs.Common.{inr, ℕ, ◌+◌, ◌/◌, ◌∷◌, [], length, sym, ap, ◌∙◌, arith}
+use Rattle.std.proofs.Common.{inl, inr, ℕ, ◌+◌, ◌/◌, ◌∷◌, [], length, sym, ap, ◌∙◌, arith}
 use Rattle.std.proofs.lemmas.Result.{err_from_is_err_and}
 use Rattle.fc_format.specs.Bytes.{batch_bytes}
 use Rattle.fc_format.specs.Halves.{Found}
 use Rattle.fc_meta.specs.Answers.{found_with}
 use Rattle.fc_meta.specs.States.{disk_of, found, room_of, used_of}
-use Rattle.fc_marks.proofs.Counting.{fewer, more_made, short_of_batch, short_of_fold, some_made, was_folded, was_put}
-use Rattle.fc_marks.proofs.Leaving.{goes_on, has_failed, was_full, has_risen, same_error, fits_then}
-use Rattle.fc_marks.specs.declared.error.NotedStop.TheVariants.{MetaFailed}
+use Rattle.fc_marks.proofs.Counting.{few_made, fewer, more_made, short_of_batch, short_of_fold, some_made, was_folded, was_put}
+use Rattle.fc_marks.proofs.Leaving.{goes_on, has_failed, was_full, has_risen, fits_then}
 use Rattle.fc_marks.proofs.putting.put_record.Goals as goal
 
 pub returns-in_err-put-clause-full : goal.returns-in_err-put-clause-full
@@ -51,8 +50,21 @@ returns-then-fits-clause-put g c =
 pub returns-in_err-put-clause-within : goal.returns-in_err-put-clause-within
 returns-in_err-put-clause-within g c =
     let p = err_from_is_err_and c.from_residual.result c.from_residual.ensures.1 in
-    rw (p.1, p.2) (λ told. short_of_batch g.M.MetaDisk.seen g.M.MetaDisk.calls c.args.note c.args.meta.now c.put.new.self
-    (some_made 4 (g.M.MetaDisk.calls (disk_of c.args.meta.now)) (g.M.MetaDisk.calls (disk_of c.put.new.self)) (c.in_err-put.ensures.treats.asks.stopped (has_failed c.in_err-put.field-0.0 told))))
+    let first : ℕ = g.M.MetaDisk.calls (disk_of c.args.meta.now) in
+    let now : ℕ = g.M.MetaDisk.calls (disk_of c.put.new.self) in
+    rw p.1 (short_of_batch g.M.MetaDisk.seen g.M.MetaDisk.calls c.args.note c.args.meta.now c.put.new.self (elim c.in_err-put.ensures.refused [
+      | inl told ↦ some_made 4 first now (c.in_err-put.ensures.treats.asks.stopped told)
+      | inr same ↦ few_made 0 4 first now (omega arith) (ap (λ m. g.M.MetaDisk.calls (disk_of m)) same)
+    ]))
+
+pub returns-in_err-put-clause-room : goal.returns-in_err-put-clause-room
+returns-in_err-put-clause-room g c = ap (λ (n : ℕ). n / 2) c.in_err-put.ensures.treats.size
+
+pub returns-in_err-put-2-clause-room : goal.returns-in_err-put-2-clause-room
+returns-in_err-put-2-clause-room g c = ap (λ (n : ℕ). n / 2) c.in_err-put-2.ensures.treats.size ∙ c.in_ok-fold_same.ensures.room
+
+pub returns-then-fits-clause-room : goal.returns-then-fits-clause-room
+returns-then-fits-clause-room g c = ap (λ (n : ℕ). n / 2) c.in_ok-put.ensures.treats.size
 
 pub returns-clause-room : goal.returns-clause-room
 returns-clause-room g c = ap (λ (n : ℕ). n / 2) c.in_ok-put-2.ensures.treats.size ∙ c.in_ok-fold_same.ensures.room
@@ -66,14 +78,17 @@ returns-clause-put g c =
 pub returns-in_err-put-2-clause-within : goal.returns-in_err-put-2-clause-within
 returns-in_err-put-2-clause-within g c =
     let p = err_from_is_err_and c.from_residual-in_err-put-2.result c.from_residual-in_err-put-2.ensures.1 in
-    rw (p.1, p.2) (λ told. short_of_fold g.M.MetaDisk.seen g.M.MetaDisk.calls c.args.note c.args.meta.now c.put-2.new.self (sym c.fits.ensures ∙ c.if-fits.false)
-    (more_made 4 6 (g.M.MetaDisk.calls (disk_of c.args.meta.now)) (g.M.MetaDisk.calls (disk_of c.fold_same.new.meta)) (g.M.MetaDisk.calls (disk_of c.put-2.new.self))
-    c.in_ok-fold_same.ensures.counted
-    (some_made 4 (g.M.MetaDisk.calls (disk_of c.fold_same.new.meta)) (g.M.MetaDisk.calls (disk_of c.put-2.new.self))
-    (c.in_err-put-2.ensures.treats.asks.stopped (has_failed c.in_err-put-2.field-0.0 told)))))
+    let first : ℕ = g.M.MetaDisk.calls (disk_of c.args.meta.now) in
+    let mid : ℕ = g.M.MetaDisk.calls (disk_of c.fold_same.new.meta) in
+    let now : ℕ = g.M.MetaDisk.calls (disk_of c.put-2.new.self) in
+    rw p.1 (short_of_fold g.M.MetaDisk.seen g.M.MetaDisk.calls c.args.note c.args.meta.now c.put-2.new.self (sym c.fits.ensures ∙ c.if-fits.false)
+    (more_made 4 6 first mid now c.in_ok-fold_same.ensures.counted (elim c.in_err-put-2.ensures.refused [
+      | inl told ↦ some_made 4 mid now (c.in_err-put-2.ensures.treats.asks.stopped told)
+      | inr same ↦ few_made 0 4 mid now (omega arith) (ap (λ m. g.M.MetaDisk.calls (disk_of m)) same)
+    ])))
 
 pub returns-in_err-fold_same-clause-within : goal.returns-in_err-fold_same-clause-within
 returns-in_err-fold_same-clause-within g c =
     let p = err_from_is_err_and c.from_residual-in_err-fold_same.result c.from_residual-in_err-fold_same.ensures.1 in
-    rw (p.1, p.2) (λ told. short_of_fold g.M.MetaDisk.seen g.M.MetaDisk.calls c.args.note c.args.meta.now c.fold_same.new.meta (sym c.fits.ensures ∙ c.if-fits.false)
-    (fewer 6 10 (g.M.MetaDisk.calls (disk_of c.args.meta.now)) (g.M.MetaDisk.calls (disk_of c.fold_same.new.meta)) (omega arith) (c.in_err-fold_same.ensures.within (same_error c.in_err-fold_same.field-0.0 MetaFailed told))))
+    rw p.1 (short_of_fold g.M.MetaDisk.seen g.M.MetaDisk.calls c.args.note c.args.meta.now c.fold_same.new.meta (sym c.fits.ensures ∙ c.if-fits.false)
+    (fewer 6 10 (g.M.MetaDisk.calls (disk_of c.args.meta.now)) (g.M.MetaDisk.calls (disk_of c.fold_same.new.meta)) (omega arith) c.in_err-fold_same.ensures.within))
