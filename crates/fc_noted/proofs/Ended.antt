@@ -33,9 +33,9 @@ use Rattle.fc_noted.proofs.Finishing.{is_right, rows, runs, store_stands}
 use Rattle.fc_noted.proofs.Holding.{HoldSame, have_same, match_same, one_same}
 use Rattle.fc_noted.proofs.InHand.{doing_counted, now_inside, recovered_of, safe}
 use Rattle.fc_noted.proofs.Moments.{doing_found, hold_either, still_leaves}
-use Rattle.fc_noted.proofs.Putting.{same_stop}
 use Rattle.fc_noted.proofs.Rising.{counted_same}
 use Rattle.fc_noted.proofs.Safe.{safe_by}
+use Rattle.fc_noted.proofs.Stepping.{same_stop}
 use Rattle.fc_noted.specs.Making.{GoesBehind, WayMade}
 use Rattle.fc_noted.specs.Noted.{IsAtBy, IsDoing, IsNotedAt, Keeps, Logs}
 use Rattle.fc_noted.specs.Stopping.{AreCounted, HasStopped, LeavesRecoverable, MayBeRecovered, MoreFailed}
