@@ -1,27 +1,35 @@
 # shellcheck shell=bash disable=SC2154
-# What is checked of `stop K` of the built program: the worked session, whose texts stand in the table of stop_runs, and drawn sessions,
-# which are compared with a plain program (bench/stopped_sessions.sh, here at some of their calls). It is sourced, not run, with what
-# counting.sh has.
+# What is checked of `stop K` of the built program: the worked session and one with presets, whose texts stand in the table of stop_runs,
+# and drawn sessions, which are compared with a plain program (bench/stopped_sessions.sh, here at some of their calls). It is sourced,
+# not run, with what counting.sh has.
 
-# The session of stop_runs.
-worked_session() {
-    sed -n 's/\\n/\n/g; /^const SESSION/,/^";/p' crates/stop_runs/src/main.rt |
-        sed -e 's/^const SESSION: &str = "//' -e '/^";$/d'
+# A session of stop_runs, by its name there.
+session_of_runs() { # SESSION|PRESETS
+    sed -n "s/\\\\n/\\n/g; /^const $1/,/^\";/p" crates/stop_runs/src/main.rt |
+        sed -e "s/^const $1: &str = \"//" -e '/^";$/d'
+}
+
+# Its stops at these calls are as in the table, where a word stands before the call, or none.
+stops_as_in_table() { # WORD-AND-SPACE CALL..
+    local word="$1" call
+    shift
+    for call in "$@"; do
+        run_program stop "$call" <"$room/session"
+        is "stop $word$call: status" 0 "$status"
+        awk -v head="== $word$call status " '/^== / { on = index($0, head) == 1; next } on' crates/stop_runs/stdout >"$room/stopped"
+        holds "stop $word$call isn't what stands in the table" cmp -s "$room/out" "$room/stopped"
+    done
 }
 
 stops_worked() {
-    local call
-    worked_session >"$room/session"
-    for call in 1 2 3 4 5 11 17 33 35 36 37 40 41; do
-        run_program stop "$call" <"$room/session"
-        is "stop $call: status" 0 "$status"
-        awk -v call="$call" '/^== / { on = $2 == call; next } on' crates/stop_runs/stdout >"$room/stopped"
-        holds "stop $call isn't what stands in the table" cmp -s "$room/out" "$room/stopped"
-    done
-    # presets and the lines of blocks name no line there
-    run_program stop 100 < <(printf '%s\n' 'mkpreset -source A -preset clone -name x' together 'actor a host' end)
+    session_of_runs PRESETS >"$room/session"
+    stops_as_in_table 'presets ' 19 21 26 31 33 51 55 57 61 62 63
+    session_of_runs SESSION >"$room/session"
+    stops_as_in_table '' 1 2 3 4 5 11 17 33 35 36 37 40 41
+    # the lines of blocks name no line there
+    run_program stop 100 < <(printf '%s\n' together 'actor a host' end)
     is "stop of lines that aren't there: status" 0 "$status"
-    is "lines that aren't there" 4 "$(grep -c ' main - -> refused unknown command$' "$room/out")"
+    is "lines that aren't there" 3 "$(grep -c ' main - -> refused unknown command$' "$room/out")"
     run_program stop 1 <"$room"
     is "stop, and standard input fails: status" 0 "$status"
     run_program stop 100 <"$room"
