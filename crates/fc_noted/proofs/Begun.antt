@@ -16,6 +16,7 @@ use Rattle.fc_legal.specs.Whole.{Whole, lane_at, lanes}
 use Rattle.fc_marks.specs.declared.error.NotedStop.TheVariants.{LogFull}
 use Rattle.fc_marks.specs.declared.error.NotedStop.{NotedStop}
 use Rattle.fc_noted.proofs.Beginning.{begun_steps, begun_steps_are}
+use Rattle.fc_noted.proofs.Counting.{has_counted}
 use Rattle.fc_noted.proofs.Holding.{HoldSame, have_same, match_same, one_same}
 use Rattle.fc_noted.proofs.Moments.{doing_found, hold_either, resting_found, still_leaves}
 use Rattle.fc_noted.specs.Making.{StepMade}
@@ -194,8 +195,15 @@ module _ {C D : Type 0} (seen : D → List ℕ) (may_leave : D → List ℕ → 
             (hold_either old.store roomy old.script old.named w least k.image (ap (λ c. c.grain) control) (found_before w least at)
             (subst (λ c. MayBeRecovered c.grain old.script old.named roomy.lanes w least k.image) (sym control) (found_roomy w least at)));
         stopped = λ w least at.
-            let k = (at_roomy w least at).keeps in
-            (refl, record { volumes = k.volumes; leaves = λ c may. (k.image, ap recovered (k.rests.durable c may) ∙ k.says, found_roomy w least at) });
+            let h = at_roomy w least at in
+            let k = h.keeps in (
+              refl,
+              record {
+                volumes = k.volumes;
+                counted = has_counted roomy w h.told.0 (few_told w least at);
+                leaves = λ c may. (k.image, ap recovered (k.rests.durable c may) ∙ k.says, found_roomy w least at);
+              },
+            );
         full = λ e. full (err_is stop e);
       }
     where

@@ -41,11 +41,13 @@ use Rattle.law_noted.specs.Runs.{HasRun}
 use Rattle.law_commanded.proofs.Leaving.{from_run}
 use Rattle.law_commanded.specs.Law.{CommandedLaw, HasCome, decision_on, least_behind, left_behind}
 use Rattle.fc_noted.proofs.Commanding.{BecomesAnew, same_disks, stands_for}
+use Rattle.fc_noted.proofs.Counting.{counted_as}
 use Rattle.fc_noted.proofs.Planned.{IsPlanned, becoming, entry_of, have_left, same_lanes, stands_left}
+use Rattle.fc_noted.proofs.Safe.{as_it_was}
 use Rattle.fc_noted.proofs.Standing.{has_come}
 use Rattle.fc_noted.specs.Making.{AnewOr, HasActed, IsHeldAt}
 use Rattle.fc_noted.specs.Noted.{IsNotedAt}
-use Rattle.fc_noted.specs.Stopping.{HasStopped, MayBeRecovered}
+use Rattle.fc_noted.specs.Stopping.{HasStopped, MayBeRecovered, MoreFailed}
 use Rattle.fc_noted.specs.declared.noted.Noted.{Noted}
 
 -- Metadata behind a command: it stands for what the history leads to with the entry, and so do the disks.
@@ -209,12 +211,17 @@ module _ {C D : Type 0} (seen : D → List ℕ) (may_leave : D → List ℕ → 
           reached = λ read. stays;
           asked = asks;
           sound = b.sound;
-          found = λ back hold. (
-            None,
-            subst (λ (k : Kept). Recoverable g back k w least (Some (Asked command)) None) (sym b.kept)
-                (recovers_agreeing g b.point.disks back b.point.kept w least (Some (Asked command)) None (all_agree g new.named b.point.kept new.store.lanes b.point.disks back no_lane matches hold) there),
-          );
+          found = λ back hold.
+              as_it_was g back (kept_in b.image) w least (Some (Asked command)) (MoreFailed w new.store.lanes)
+              (subst (λ (k : Kept). Recoverable g back k w least (Some (Asked command)) None) (sym b.kept)
+              (recovers_agreeing g b.point.disks back b.point.kept w least (Some (Asked command)) None (all_agree g new.named b.point.kept new.store.lanes b.point.disks back no_lane matches hold) there));
         }
 
     pub stops_behind : Asks old.store.control.grain (agenda_of old.store.control.grain old.script) w (0, Asked command) → HaveVolumes new.disks new.store → HasStopped may_leave old new w least
-    stops_behind asks volumes = record { volumes = volumes; leaves = λ c may. (b.image, ap recovered (b.rests.durable c may) ∙ b.says, found_behind asks) }
+    stops_behind asks volumes =
+        let there = b.come.lanes_are in
+        record {
+          volumes = volumes;
+          counted = counted_as g (one_more left) w new.store.lanes refl refl there.each there.count at.told.0.stands.each_lane.calls at.told.0.calls (omega (arith, few));
+          leaves = λ c may. (b.image, ap recovered (b.rests.durable c may) ∙ b.says, found_behind asks);
+        }

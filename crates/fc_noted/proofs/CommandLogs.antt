@@ -23,6 +23,7 @@ use Rattle.fc_script.specs.Script.{agenda_of}
 use Rattle.fc_script.specs.declared.script.Script.{Script}
 use Rattle.fc_stands.specs.Store.{StandsFor, StoreView}
 use Rattle.fc_noted.proofs.Begun.{at_rest}
+use Rattle.fc_noted.proofs.Counting.{has_counted}
 use Rattle.fc_noted.proofs.Moments.{hold_either, resting_found, still_leaves}
 use Rattle.fc_noted.proofs.Putting.{same_stop}
 use Rattle.fc_noted.specs.Making.{GoesBehind, IsHeldAt, KeepLanes, LeadsOn, StepMade, always}
@@ -49,8 +50,9 @@ module _ {C D : Type 0} (seen : D → List ℕ) (may_leave : D → List ℕ → 
             (hold_either old.store old.store old.script old.named w least h.keeps.image refl m m);
         stopped = λ w least at.
             let h = at_rest seen may_leave old before w least idle at in
-            let m = resting_found seen may_leave old before w least h (subst (λ (k : ℕ). k ≤ 262144) (sym h.told.1.entries) room) in
-            (refl, record { volumes = h.keeps.volumes; leaves = λ c may. (h.keeps.image, ap recovered (h.keeps.rests.durable c may) ∙ h.keeps.says, m) });
+            let few : w.entries ≤ 262144 = subst (λ (k : ℕ). k ≤ 262144) (sym h.told.1.entries) room in
+            let m = resting_found seen may_leave old before w least h few in
+            (refl, record { volumes = h.keeps.volumes; counted = has_counted old.store w h.told.0 few; leaves = λ c may. (h.keeps.image, ap recovered (h.keeps.rests.durable c may) ∙ h.keeps.says, m) });
         full = λ e. full;
       }
 
@@ -79,7 +81,7 @@ module _ {C D : Type 0} (seen : D → List ℕ) (may_leave : D → List ℕ → 
     stops : (w : Whole) (least : List Row) → IsAt seen may_leave old before w least → HasStopped may_leave old new w least
     stops w least at =
         let s = stopped before w least room (rest w least at) in
-        record { volumes = s.volumes; leaves = s.leaves }
+        record { volumes = s.volumes; counted = s.counted; leaves = s.leaves }
 
     unlogged : StepMade seen may_leave moment left_since (Err WantsMemory) old (record mid { script = script }) before before
     unlogged =

@@ -1,5 +1,5 @@
 -- What a stop leaves while a command is done: with metadata as it stood, or made anew.
-use Rattle.std.proofs.Common.{◌≡◌, ℕ, ◌<◌, ◌≤◌, Option, List, sym, ap, subst, ◌∙◌, inl, inr}
+use Rattle.std.proofs.Common.{◌≡◌, ℕ, ◌<◌, ◌≤◌, Option, List, sym, ap, subst, ◌∙◌, inl, inr, arith}
 use Rattle.fc_base.specs.declared.command.Command.{Command}
 use Rattle.fc_base.specs.declared.decision.Decision.{Decision}
 use Rattle.fc_base.specs.declared.ids.VolId.{VolId}
@@ -20,12 +20,13 @@ use Rattle.fc_script.specs.Script.{agenda_of}
 use Rattle.fc_stands.specs.Store.{StoreView}
 use Rattle.law_commanded.specs.Law.{AreLanesIn, CommandedLaw, HasCome, IsCommanded}
 use Rattle.fc_noted.proofs.Commanding.{BecomesAnew}
+use Rattle.fc_noted.proofs.Counting.{counted_in}
 use Rattle.fc_noted.proofs.Moments.{still_leaves}
 use Rattle.fc_noted.proofs.Planned.{in_old}
 use Rattle.fc_noted.proofs.Standing.{anew_recovered, before_recovered, has_come}
 use Rattle.fc_noted.specs.Making.{IsImageAfter, LeavesAnew}
 use Rattle.fc_noted.specs.Noted.{IsNotedAt}
-use Rattle.fc_noted.specs.Stopping.{HasStopped, HoldStill, LeavesRecoverable, MayBeRecovered, MayHold}
+use Rattle.fc_noted.specs.Stopping.{AreCounted, HasStopped, HoldStill, LeavesRecoverable, MayBeRecovered, MayHold}
 use Rattle.fc_noted.specs.declared.noted.Noted.{Noted}
 
 module _ {C D : Type 0} (seen : D → List ℕ) (may_leave : D → List ℕ → Type 0) (law : CommandedLaw) (old : Noted C D) (command : Command) (history : HistoryState) (w : Whole) (least : List Row)
@@ -40,6 +41,9 @@ module _ {C D : Type 0} (seen : D → List ℕ) (may_leave : D → List ℕ → 
   in_any new inside ls (inl e) = subst In (sym e) (in_old law old.store.control.grain history.entries w least command old.store.lanes at.point come few)
   in_any new inside ls (inr e) = subst In (sym e.0) (inside e.1)
 
+  counted : (ls : List LaneView) → In ls → AreCounted w ls
+  counted ls inside = counted_in old.store.control.grain old.store w least command old.store.lanes ls at.told.0 (omega (arith, few)) inside
+
   -- metadata says what it said
   said : (ls : List LaneView) → In ls → MayBeRecovered old.store.control.grain old.script old.named ls w least at.keeps.image
   said ls inside =
@@ -50,6 +54,7 @@ module _ {C D : Type 0} (seen : D → List ℕ) (may_leave : D → List ℕ → 
   stayed_stops new meta named volumes inside =
       record {
         volumes = volumes;
+        counted = counted new.store.lanes inside;
         leaves = λ c left. (
           at.keeps.image,
           ap recovered (at.keeps.rests.durable c (subst (λ (m : Meta D). may_leave m.disk c) meta left)) ∙ at.keeps.says,
@@ -90,6 +95,7 @@ module _ {C D : Type 0} (seen : D → List ℕ) (may_leave : D → List ℕ → 
         let By : ℕ → MetaImage → Type 0 = λ n image. MayBeRecovered old.store.control.grain old.script n new.store.lanes w least image in
         record {
           volumes = volumes;
+          counted = counted new.store.lanes inside;
           leaves = λ c left. elim (run.each c (counts_now new.meta.disk (moment old.meta.disk) c run.later left)) [
             | inl e ↦ (at.keeps.image, e ∙ at.keeps.says, subst (λ (n : ℕ). By n at.keeps.image) (sym named) (said new.store.lanes inside))
             | inr x ↦ (x.0, x.1, subst (λ (n : ℕ). By n x.0) (sym named) (anew new.store.lanes inside x.0 x.2))

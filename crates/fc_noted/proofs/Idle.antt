@@ -1,5 +1,5 @@
 -- An access that does nothing is logged: the history leads on with it to what stood.
-use Rattle.std.proofs.Common.{◌≡◌, ℕ, ◌<◌, true, None, List, [], ◌∷◌, ◌++◌, length, Result, OnOk, OnErr, IfErr, refl}
+use Rattle.std.proofs.Common.{◌≡◌, ℕ, ◌<◌, ◌≤◌, true, None, List, [], ◌∷◌, ◌++◌, length, Result, OnOk, OnErr, IfErr, refl, sym, subst, arith}
 use Rattle.fc_base.specs.declared.request.Request.{Request}
 use Rattle.fc_changed.specs.Row.{Row}
 use Rattle.fc_entry.specs.HistoryState.{HistoryState}
@@ -9,7 +9,9 @@ use Rattle.fc_legal.specs.Steps.{after_access}
 use Rattle.fc_legal.specs.Whole.{Whole}
 use Rattle.fc_marks.specs.declared.error.NotedStop.TheVariants.{NoMemory as WantsMemory}
 use Rattle.fc_marks.specs.declared.error.NotedStop.{NotedStop}
+use Rattle.fc_noted.proofs.Counting.{has_counted}
 use Rattle.fc_noted.proofs.Holding.{HoldSame, have_same, match_same}
+use Rattle.fc_noted.proofs.Rising.{counted_same}
 use Rattle.fc_noted.proofs.Still.{HoldStill, access_leads, still_made}
 use Rattle.fc_noted.specs.Making.{GoesBehind, StepMade, always}
 use Rattle.fc_noted.specs.Noted.{IsNotedAt}
@@ -24,11 +26,13 @@ use Rattle.fc_stands.specs.Store.{StandsFor, StoreView}
 module _ {C D : Type 0} (seen : D → List ℕ) (may_leave : D → List ℕ → Type 0) (moment : D → ℕ) (left_since : D → ℕ → List ℕ → Type 0) (only_now : (disk : D) (c : List ℕ) → left_since disk (moment disk) c → may_leave disk c)
     (old : Noted C D) (history : HistoryState) (idle : old.under_way ≡ None) (live : old.live ≡ true) (room : length history.entries < 262144) (store : StoreView) (control : store.control ≡ old.store.control)
     (same : HoldSame old.store.lanes store.lanes) where
-  holds : (w : Whole) (least : List Row) (h : IsNotedAt seen may_leave old history w least) → HoldStill seen may_leave moment left_since only_now old history idle live room store control h.point
+  holds : (w : Whole) (least : List Row) (h : IsNotedAt seen may_leave old history w least) → HoldStill seen may_leave moment left_since only_now old history idle live room store control w h.point
   holds w least h =
+      let few : w.entries < 262144 = subst (λ (k : ℕ). k < 262144) (sym h.told.1.entries) room in
       record {
         matches = match_same old.store.lanes store.lanes same old.store.control.grain old.named h.point.kept h.point.disks h.keeps.matches;
         volumes = have_same old.disks old.store store control same h.keeps.volumes;
+        counted = counted_same w old.store.lanes store.lanes same (has_counted old.store w h.told.0 (omega (arith, few)));
       }
 
   -- For whatever the store stood for, the entry is the next one.

@@ -13,6 +13,7 @@ use Rattle.fc_marks.specs.declared.error.NotedStop.TheVariants.{NoMemory as Want
 use Rattle.fc_marks.specs.declared.error.NotedStop.{NotedStop}
 use Rattle.fc_meta.proofs.Moments.{weaker}
 use Rattle.fc_noted.proofs.Begun.{at_rest}
+use Rattle.fc_noted.proofs.Counting.{has_counted}
 use Rattle.fc_noted.proofs.Moments.{hold_either, resting_found, still_leaves}
 use Rattle.fc_noted.specs.Making.{StepMade}
 use Rattle.fc_noted.specs.Noted.{GoesOnTo, IsAt, IsAtBy, IsNotedAt, Logs, Stays}
@@ -127,7 +128,7 @@ module _ {C D : Type 0} (seen : D → List ℕ) (may_leave : D → List ℕ → 
       moment_behind c l = (l.0, l.1, λ lanes may. found_behind lanes old.named l.0 (l.2 lanes may))
 
       stopped_behind : HasStopped may_leave on_script new w least → HasStopped may_leave old new w least
-      stopped_behind s = record { volumes = s.volumes; leaves = λ c may. let l = s.leaves c may in (l.0, l.1, found_behind new.store.lanes new.named l.0 l.2) }
+      stopped_behind s = record { volumes = s.volumes; counted = s.counted; leaves = λ c may. let l = s.leaves c may in (l.0, l.1, found_behind new.store.lanes new.named l.0 l.2) }
 
     made_by : (result : Result Bool NotedStop) (new : Noted C D) (after : HistoryState) → StepMade seen may_leave moment left_since result on_script new before after → StepMade seen may_leave moment left_since result old new before after
     made_by (Ok more) new after s =
@@ -186,7 +187,13 @@ module _ {C D : Type 0} (seen : D → List ℕ) (may_leave : D → List ℕ → 
             (hold_either old.store old.store old.script old.named w least h.keeps.image refl m m);
         stopped = λ w least at.
             let h = at_rest seen may_leave old before w least idle at in
-            let few : w.entries ≤ 262144 = subst (λ (k : ℕ). k ≤ 262144) (sym h.told.1.entries) room in
-            (refl, record { volumes = h.keeps.volumes; leaves = λ c may. (h.keeps.image, ap recovered (h.keeps.rests.durable c may) ∙ h.keeps.says, resting_found seen may_leave old before w least h few) });
+            let few : w.entries ≤ 262144 = subst (λ (k : ℕ). k ≤ 262144) (sym h.told.1.entries) room in (
+              refl,
+              record {
+                volumes = h.keeps.volumes;
+                counted = has_counted old.store w h.told.0 few;
+                leaves = λ c may. (h.keeps.image, ap recovered (h.keeps.rests.durable c may) ∙ h.keeps.says, resting_found seen may_leave old before w least h few);
+              },
+            );
         full = λ f. absurd cc;
       }

@@ -1,5 +1,5 @@
 -- A read is answered in the lane of its grain: it moves and tears nothing, so with its entry the history leads on to what stood.
-use Rattle.std.proofs.Common.{◌≡◌, ℕ, ◌^◌, ◌<◌, true, None, List, [], ◌∷◌, ◌++◌, length, map, slice_set, Result, OnOk, OnErr, IfErr, refl, sym, ap, subst, ◌∙◌}
+use Rattle.std.proofs.Common.{◌≡◌, ℕ, ◌+◌, ◌^◌, ◌<◌, ◌≤◌, true, None, List, [], ◌∷◌, ◌++◌, length, map, slice_set, Result, OnOk, OnErr, IfErr, refl, sym, ap, subst, ◌∙◌, arith}
 use Rattle.std.proofs.lemmas.List.{get_or-map, map-set, set-get_or}
 use Rattle.fc_base.specs.Pools.{Pool}
 use Rattle.fc_base.specs.declared.ids.VolId.{VolId}
@@ -25,6 +25,7 @@ use Rattle.fc_legal.specs.Whole.{Whole, as_one, lane_of_grain, single_lane}
 use Rattle.fc_marks.specs.declared.error.NotedStop.TheVariants.{NoMemory as WantsMemory}
 use Rattle.fc_marks.specs.declared.error.NotedStop.{NotedStop}
 use Rattle.fc_noted.proofs.Accessing.{answered_turn}
+use Rattle.fc_noted.proofs.Counting.{CountsLess, counted_before, counts_less, has_counted}
 use Rattle.fc_noted.proofs.Holding.{HoldSame}
 use Rattle.fc_noted.proofs.Still.{HoldStill, LeadsStill, access_leads, point_next, still_made}
 use Rattle.fc_noted.proofs.Telling.{have_then, match_all_then}
@@ -66,11 +67,23 @@ by_access grain spot part entry Online a = by_reply grain spot part entry entry.
 by_access grain spot part entry (Offline m state) a = record { moves = a.1.moves; untorn = a.1.untorn }
 by_access grain spot part entry (NotAccessible m) a = record { moves = a.1.moves; untorn = a.1.untorn }
 
--- its entry tells of no step
+-- its entry is one of its lane
+read_step : (Stands : Whole → Type 0) (grain : GrainSize) (w next : Whole) (part : ReadPart) (entry : Entry) → IsTurn Stands grain w (ReadBlocks part) entry next →
+    LaneStep grain w (lane_of_grain w (grain_of_block grain part.block)) (λ (e : Entry). LaneAnswers (single_lane grain) (as_one w) e.request e) entry next
+read_step Stands grain w next part entry turn =
+    let right : RequestStep grain w (ReadBlocks part) entry next = subst (λ (r : Request). RequestStep grain w r entry next) turn.asked turn.step.right in
+    right.1
+
+-- so no fewer calls and faults are told behind it
+read_counts : (Stands : Whole → Type 0) (grain : GrainSize) (w next : Whole) (part : ReadPart) (entry : Entry) → IsTurn Stands grain w (ReadBlocks part) entry next → CountsLess w next
+read_counts Stands grain w next part entry turn =
+    let step = read_step Stands grain w next part entry turn in
+    subst (CountsLess w) (sym step.next_is) (counts_less grain w (lane_of_grain w (grain_of_block grain part.block)) entry step.faults_before step.faults_kept)
+
+-- it tells of no step
 read_tells : (Stands : Whole → Type 0) (grain : GrainSize) (w next : Whole) (part : ReadPart) (entry : Entry) → IsTurn Stands grain w (ReadBlocks part) entry next → Tells entry.request None [] None entry
 read_tells Stands grain w next part entry turn =
-    let right : RequestStep grain w (ReadBlocks part) entry next = subst (λ (r : Request). RequestStep grain w r entry next) turn.asked turn.step.right in
-    let step : LaneStep grain w (lane_of_grain w (grain_of_block grain part.block)) (λ (e : Entry). LaneAnswers (single_lane grain) (as_one w) e.request e) entry next = right.1 in
+    let step = read_step Stands grain w next part entry turn in
     let did : HasOnlyRead entry =
     by_access grain (spot_at (single_lane grain) (as_one w) (grain_of_block grain part.block)) part entry (lane_access (as_one w).volumes part.volume)
     (subst (λ (r : Request). LaneAnswers (single_lane grain) (as_one w) r entry) turn.asked step.answers) in
@@ -111,16 +124,20 @@ module _ {C D : Type 0} (seen : D → List ℕ) (may_leave : D → List ℕ → 
       ∙ (ap (λ (p : Pool). slice_set (map disks_of roomy.lanes) place p) (followed.same.disks ∙ sym (get_or-map disks_of roomy.lanes place no_lane (disks_of no_lane) ready.inside))
       ∙ (set-get_or (map disks_of roomy.lanes) place (disks_of no_lane) ∙ disks_each old.store.lanes roomy.lanes same)))
 
-  holds : (w : Whole) (least : List Row) (h : IsNotedAt seen may_leave old history w least) → HoldStill seen may_leave moment left_since only_now old history idle live room store control_then h.point
+  holds : (w : Whole) (least : List Row) (h : IsNotedAt seen may_leave old history w least) → HoldStill seen may_leave moment left_since only_now old history idle live room store control_then w h.point
   holds w least h =
       let grain : GrainSize = old.store.control.grain in
       let few_told : w.entries < 262144 = subst (λ (k : ℕ). k < 262144) (sym h.told.1.entries) room in
       let t : LeadsStill (StandsFor store) grain w least h.point (ReadBlocks part) entry = leads w least h in
+      let next : Whole = after_access grain w (lane_of_grain w g) entry in
+      let turn : IsTurn (StandsFor store) grain w (ReadBlocks part) entry next = read_turn w h.told.1.entries h.told.0 in
+      let within : w.entries + 1 ≤ 262144 = omega (arith, few_told) in
       let tables : t.next.books.tables ≡ w.books.tables = sym t.turn.stands.control.tables ∙ (ap (λ (c : ControlState). c.tables) control_then ∙ h.told.0.control.tables) in
       record {
         matches = match_all_then old.store store w t.next h.told.0 t.turn.stands control_then disks old.named t.least_next h.point
             (point_next grain history.entries w least h.point h.run (ReadBlocks part) entry (StandsFor store) t tables few_told) h.keeps.matches;
         volumes = have_then old.store store w t.next h.told.0 t.turn.stands control_then disks old.disks h.keeps.volumes;
+        counted = counted_before w next store.lanes (read_counts (StandsFor store) grain w next part entry turn) (has_counted store next turn.stands within);
       }
 
   pub read_made : (script : Script) (result : Result (Unit {0}) NotedStop) (behind : HistoryState) →

@@ -1,5 +1,5 @@
 -- A refusal is logged: the history leads on with it, and all stands as it stood.
-use Rattle.std.proofs.Common.{◌≡◌, ℕ, ◌<◌, true, None, List, [], ◌∷◌, ◌++◌, length, Result, OnOk, OnErr, IfErr, refl, sym, subst, ◌∙◌}
+use Rattle.std.proofs.Common.{◌≡◌, ℕ, ◌<◌, ◌≤◌, true, None, List, [], ◌∷◌, ◌++◌, length, Result, OnOk, OnErr, IfErr, refl, sym, subst, ◌∙◌, arith}
 use Rattle.fc_base.specs.declared.fault.Refusal.{Refusal}
 use Rattle.fc_base.specs.declared.request.Place.TheVariants.{Control}
 use Rattle.fc_base.specs.declared.request.Reply.TheVariants.{Refused}
@@ -15,6 +15,7 @@ use Rattle.fc_legal.specs.Steps.{one_more}
 use Rattle.fc_legal.specs.Whole.{Whole}
 use Rattle.fc_marks.specs.declared.error.NotedStop.TheVariants.{NoMemory as WantsMemory}
 use Rattle.fc_marks.specs.declared.error.NotedStop.{NotedStop}
+use Rattle.fc_noted.proofs.Counting.{has_counted}
 use Rattle.fc_noted.proofs.Still.{LeadsStill, still_made}
 use Rattle.fc_noted.specs.Making.{GoesBehind, StepMade, always}
 use Rattle.fc_noted.specs.declared.noted.Noted.{Noted}
@@ -77,7 +78,11 @@ module _ {C D : Type 0} (seen : D → List ℕ) (may_leave : D → List ℕ → 
       OnOk result (behind ≡ record history { entries = history.entries ++ entry ∷ [] }) → OnOk result (GoesBehind old.store.control.grain (StandsFor old.store) old.script entry script) → OnErr result (behind ≡ history) →
       IfErr result (λ stop. stop ≡ WantsMemory) → StepMade seen may_leave moment left_since (always result) old (record old { script = script }) history behind
   refused_made number request refusal entry script result behind counted made is asks =
-      still_made seen may_leave moment left_since only_now old history idle live room old.store refl (λ w least h. record { matches = h.keeps.matches; volumes = h.keeps.volumes }) request entry script result behind
+      still_made seen may_leave moment left_since only_now old history idle live room old.store refl
+      (λ w least h.
+      let few : w.entries < 262144 = subst (λ (k : ℕ). k < 262144) (sym h.told.1.entries) room in
+      record { matches = h.keeps.matches; volumes = h.keeps.volumes; counted = has_counted old.store w h.told.0 (omega (arith, few)) })
+      request entry script result behind
       (record {
         leads = λ w least h.
             subst (λ (e : Entry). LeadsStill (StandsFor old.store) old.store.control.grain w least h.point request e) (sym made)

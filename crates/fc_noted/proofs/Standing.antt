@@ -23,9 +23,10 @@ use Rattle.fc_held.specs.Held.{HoldAllOf, MatchAll}
 use Rattle.law_commanded.specs.Law.{AreLanesIn, CommandedLaw, HasCome, IsCommanded}
 use Rattle.law_crash.specs.Points.{Point}
 use Rattle.fc_noted.specs.Noted.{IsNotedAt}
-use Rattle.fc_noted.specs.Stopping.{MayBeRecovered}
+use Rattle.fc_noted.specs.Stopping.{MayBeRecovered, MoreFailed}
 use Rattle.fc_noted.specs.declared.noted.Noted.{Noted}
 use Rattle.fc_noted.proofs.Commanding.{BecomesAnew}
+use Rattle.fc_noted.proofs.Safe.{as_it_was}
 
 pub has_come : {C D : Type 0} (seen : D → List ℕ) (may_leave : D → List ℕ → Type 0) (n : Noted C D) (history : HistoryState) (w : Whole) (least : List Row) (at : IsNotedAt seen may_leave n history w least) →
     HasCome n.store.control.grain history.entries w least n.store.lanes at.point
@@ -52,11 +53,10 @@ module _ (law : CommandedLaw) (grain : GrainSize) (script : Script) (entries : L
         reached = λ read. stays;
         asked = asks;
         sound = sound;
-        found = λ back hold. (
-          None,
-          subst (λ (k : Kept). Recoverable grain back k w least (Some (Asked command)) None) (sym says)
-              (law.before grain entries w least command old now p (Some (Asked command)) back come few lanes (by_name back hold)),
-        );
+        found = λ back hold.
+            as_it_was grain back (kept_in image) w least (Some (Asked command)) (MoreFailed w now)
+            (subst (λ (k : Kept). Recoverable grain back k w least (Some (Asked command)) None) (sym says)
+            (law.before grain entries w least command old now p (Some (Asked command)) back come few lanes (by_name back hold)));
       }
 
   -- or it is made anew
@@ -68,5 +68,7 @@ module _ (law : CommandedLaw) (grain : GrainSize) (script : Script) (entries : L
         reached = λ read. stays;
         asked = asks;
         sound = is.sound;
-        found = λ back hold. (None, law.turned grain entries w least command loop entry old now p (kept_in image) back come few c is.anew lanes (by_name back hold));
+        found = λ back hold.
+            as_it_was grain back (kept_in image) w least (Some (Asked command)) (MoreFailed w now)
+            (law.turned grain entries w least command loop entry old now p (kept_in image) back come few c is.anew lanes (by_name back hold));
       }

@@ -16,6 +16,7 @@ use Rattle.fc_format.specs.Halves.{recovered}
 use Rattle.fc_held.proofs.Holding.{all_agree}
 use Rattle.fc_held.specs.Held.{HaveVolumes, MatchAll}
 use Rattle.fc_kept.specs.Disks.{is_free}
+use Rattle.fc_kept.specs.Images.{kept_in}
 use Rattle.fc_kept.specs.Kept.{Kept}
 use Rattle.fc_kept.specs.Marks.{least_entry}
 use Rattle.fc_kept.specs.Recoverable.{Recoverable, disks_at}
@@ -28,9 +29,10 @@ use Rattle.fc_marks.specs.declared.error.NotedStop.{NotedStop}
 use Rattle.fc_metadisk.specs.Disk.{LeavesOnly}
 use Rattle.fc_noted.proofs.Begun.{at_rest}
 use Rattle.fc_noted.proofs.Moments.{hold_either, resting_found, still_leaves}
+use Rattle.fc_noted.proofs.Safe.{as_it_was}
 use Rattle.fc_noted.specs.Making.{GoesBehind, StepMade, always}
 use Rattle.fc_noted.specs.Noted.{IsAt, IsAtBy, IsNotedAt}
-use Rattle.fc_noted.specs.Stopping.{LeavesRecoverable, MayBeRecovered}
+use Rattle.fc_noted.specs.Stopping.{AreCounted, LeavesRecoverable, MayBeRecovered, MoreFailed}
 use Rattle.fc_noted.specs.declared.noted.Noted.{Noted}
 use Rattle.fc_noted.specs.declared.noted.UnderWay.{UnderWay}
 use Rattle.fc_script.specs.Asking.{Fits, IsAnswer, IsLeft}
@@ -102,12 +104,13 @@ module _ (grain : GrainSize) (entries : List Entry) (w : Whole) (least : List Ro
 
 module _ {C D : Type 0} (seen : D → List ℕ) (may_leave : D → List ℕ → Type 0) (moment : D → ℕ) (left_since : D → ℕ → List ℕ → Type 0) (only_now : (disk : D) (c : List ℕ) → left_since disk (moment disk) c → may_leave disk c)
     (old : Noted C D) (history : HistoryState) (idle : old.under_way ≡ None) (live : old.live ≡ true) (room : length history.entries < 262144) (store : StoreView) (control : store.control ≡ old.store.control) where
-  -- What the lanes then hold matches the disks that were matched.
-  pub record HoldStill (p : Point) : Type 0 where
+  -- What the lanes then hold matches the disks that were matched, and no fewer calls and faults were counted.
+  pub record HoldStill (w : Whole) (p : Point) : Type 0 where
     pub matches : MatchAll old.store.control.grain old.named p.kept store.lanes p.disks
     pub volumes : HaveVolumes old.disks store
+    pub counted : AreCounted w store.lanes
 
-  module _ (holds : (w : Whole) (least : List Row) (h : IsNotedAt seen may_leave old history w least) → HoldStill h.point) where
+  module _ (holds : (w : Whole) (least : List Row) (h : IsNotedAt seen may_leave old history w least) → HoldStill w h.point) where
     abbrev g : GrainSize
     g = old.store.control.grain
 
@@ -121,7 +124,7 @@ module _ {C D : Type 0} (seen : D → List ℕ) (may_leave : D → List ℕ → 
       few : w.entries < 262144
       few = subst (λ (k : ℕ). k < 262144) (sym h.told.1.entries) room
 
-      hold : HoldStill h.point
+      hold : HoldStill w h.point
       hold = holds w least h
 
       -- what stood may be recovered with what the lanes hold then
@@ -135,11 +138,10 @@ module _ {C D : Type 0} (seen : D → List ℕ) (may_leave : D → List ℕ → 
             sound = h.keeps.sound;
             found = λ back given.
                 let p : Point = h.point in
-                let stands : PointStands g w least p = point_stands g history.entries w least p h.run (omega (arith, few)) in (
-                  None,
-                  subst (λ (k : Kept). Recoverable g back k w least None None) (sym h.keeps.kept)
-                      (recovers_agreeing g p.disks back p.kept w least None None (all_agree g old.named p.kept store.lanes p.disks back no_lane hold.matches given) (crash_law_holds.rests g w least None p stands)),
-                );
+                let stands : PointStands g w least p = point_stands g history.entries w least p h.run (omega (arith, few)) in
+                as_it_was g back (kept_in h.keeps.image) w least None (MoreFailed w store.lanes)
+                (subst (λ (k : Kept). Recoverable g back k w least None None) (sym h.keeps.kept)
+                (recovers_agreeing g p.disks back p.kept w least None None (all_agree g old.named p.kept store.lanes p.disks back no_lane hold.matches given) (crash_law_holds.rests g w least None p stands)));
           }
 
       found_then : MayBeRecovered store.control.grain old.script old.named store.lanes w least h.keeps.image
@@ -243,9 +245,10 @@ module _ {C D : Type 0} (seen : D → List ℕ) (may_leave : D → List ℕ → 
           on = tt;
           any_moment = moments script;
           stopped = λ w least at.
-              let x = h script w least at in (
+              let x = h script w least at in
+              let still = hold script w least at in (
                 refl,
-                record { volumes = (hold script w least at).volumes; leaves = λ c may. (x.keeps.image, ap recovered (x.keeps.rests.durable c may) ∙ x.keeps.says, found_held script w least at) },
+                record { volumes = still.volumes; counted = still.counted; leaves = λ c may. (x.keeps.image, ap recovered (x.keeps.rests.durable c may) ∙ x.keeps.says, found_held script w least at) },
               );
           full = λ f. absurd cc;
         }
