@@ -64,6 +64,12 @@ module _ {C D : Type 0} (seen : D → List ℕ) (fault_count calls : D → ℕ) 
         size = ap (room_of seen) same ∙ (k.size ∙ ap (room_of seen) e);
       }
 
+  -- those before an error
+  pub calls_of_error : {T U : Type 0} (result : Result U NotedStop) (given stop : NotedStop) (old first mid new : Noted C D) → result ≡ Err given → first.calls ≡ old.calls → first.meta ≡ old.meta → new.calls ≡ mid.calls → new.meta ≡ mid.meta →
+      KeepsCount {T = T} seen fault_count calls (Err stop) first mid → KeepsCount seen fault_count calls result old new
+  calls_of_error {U = U} result given stop old first mid new e c m count same k =
+      same_calls (Err stop) result old first mid new c m count same (λ P ok. subst (λ (z : Result U NotedStop). OnOk z P) (sym e) tt) k
+
   module _ (may_leave : D → List ℕ → Type 0) (old new : Noted C D) (note : MetaRecord) (rests : IsResting seen may_leave old.meta) (k : ℕ)
       (costs : (m : Meter) → IsMetered seen old.meta m → (with_record (room_of seen old.meta) note m).calls ≡ m.calls + k) (count : new.calls ≡ more_calls k old.calls) (size : room_of seen new.meta ≡ room_of seen old.meta) where
     abbrev meter : Meter

@@ -18,7 +18,6 @@ use Rattle.fc_legal.specs.Whole.{Whole}
 use Rattle.fc_marks.specs.Marks.{marked}
 use Rattle.fc_marks.specs.declared.marks.Mark.{Mark}
 use Rattle.fc_marks.specs.declared.error.NotedStop.{NotedStop}
-use Rattle.fc_marks.specs.declared.error.NotedStop.TheVariants.{LogFull}
 use Rattle.fc_meta.proofs.Moments.{weaker}
 use Rattle.fc_meta.specs.Answers.{LeavesEither, found_with}
 use Rattle.fc_meta.specs.States.{IsResting, found}
@@ -26,7 +25,7 @@ use Rattle.fc_meta.specs.declared.meta.Meta.{Meta}
 use Rattle.fc_metadisk.specs.Disk.{LeavesOnly}
 use Rattle.fc_noted.proofs.Fitting.{IsFit}
 use Rattle.fc_noted.proofs.Tidying.{ids_with, image_with}
-use Rattle.fc_noted.specs.Noted.{IsDoing, Keeps}
+use Rattle.fc_noted.specs.Noted.{CountsSoFar, IsDoing, Keeps}
 use Rattle.fc_noted.specs.Stopping.{AreCounted, HasStopped, LeavesRecoverable, MayBeRecovered, MayHold}
 use Rattle.fc_noted.specs.declared.noted.Noted.{Noted}
 use Rattle.fc_noted.specs.declared.noted.UnderWay.{UnderWay}
@@ -65,12 +64,13 @@ module _ {C D : Type 0} (seen : D → List ℕ) (may_leave : D → List ℕ → 
       }
 
   -- the entry, where its steps are as they were
-  pub put_doing : (old : Noted C D) (way : UnderWay) (history : HistoryState) (w : Whole) (least : List Row) (x : MetaRecord) (meta : Meta D) (marks : Vec Mark Global) (d : IsDoing seen may_leave old way history w least) →
+  pub put_doing : (old : Noted C D) (way : UnderWay) (history : HistoryState) (w : Whole) (least : List Row) (x : MetaRecord) (meta : Meta D) (calls : ℕ) (marks : Vec Mark Global) (d : IsDoing seen may_leave old way history w least) →
       IsInHand d.begun.control.grain w least way.place way.doing (lane_in d.begun way.place) (lane_in old.store way.place) d.steps d.before None (noted x d.point) →
       let way_new : UnderWay = record { place = way.place; doing = way.doing; due = None } in
-      let new : Noted C D = record old { meta = meta; marks = marks; under_way = Some way_new } in
-      Keeps seen may_leave d.begun.control.grain meta new w None (noted x d.point) → IsDoing seen may_leave new way_new history w least
-  put_doing old way history w least x meta marks d h keeps =
+      let new : Noted C D = record old { meta = meta; calls = calls; marks = marks; under_way = Some way_new } in
+      Keeps seen may_leave d.begun.control.grain meta new w None (noted x d.point) →
+      CountsSoFar seen may_leave d.begun.control.grain new way_new history.entries w d.steps d.before.kept.rows (noted x d.point).kept.rows → IsDoing seen may_leave new way_new history w least
+  put_doing old way history w least x meta calls marks d h keeps counts =
       record {
         begun = d.begun;
         few = d.few;
@@ -90,6 +90,7 @@ module _ {C D : Type 0} (seen : D → List ℕ) (may_leave : D → List ℕ → 
         point = noted x d.point;
         came = h.came;
         keeps = keeps;
+        counts = counts;
       }
 
 -- ---- at each moment
@@ -140,5 +141,5 @@ abbrev refused : NotedStop → Result Bool NotedStop
 refused stop = Err stop
 
 -- an error is the one that is answered
-pub same_stop : (stop : NotedStop) → IsErrOf (refused stop) LogFull → stop ≡ LogFull
+pub same_stop : (stop : NotedStop) {told : NotedStop} → IsErrOf (refused stop) told → stop ≡ told
 same_stop stop e = cc

@@ -1,8 +1,10 @@
 -- With the entry that was under way, or with the next one.
-use Rattle.std.proofs.Common.{Some, sym, ◌∙◌}
+use Rattle.std.proofs.Common.{Some, refl, sym, ◌∙◌}
 use Rattle.std.specs.Prelude.{Ok, true}
 use Rattle.std.proofs.lemmas.Result.{err_from_is_err_and}
+use Rattle.fc_noted.proofs.MeteringNoted.{calls_of_error, same_calls}
 use Rattle.fc_noted.proofs.Stepping.{step_failed, step_same}
+use Rattle.fc_noted.specs.Making.{done}
 use Rattle.fc_noted.proofs.noted.Noted.step.Goals as goal
 
 pub returns-in_err-go_on-in-Some-clause-made : goal.returns-in_err-go_on-in-Some-clause-made
@@ -20,3 +22,17 @@ pub returns-in_ok-go_on-in-Some-clause-made : goal.returns-in_ok-go_on-in-Some-c
 returns-in_ok-go_on-in-Some-clause-made g c =
     step_same g.M.MetaDisk.seen g.M.MetaDisk.may_leave g.M.MetaDisk.moment g.M.MetaDisk.left_since c.args.self.now c.go_on.new.self c.args.history.now c.go_on.new.history
     (Ok true) (Some c.in-Some.way) (sym c.take.ensures.value ∙ c.in-Some.is) c.in_ok-go_on-in-Some.ensures.made
+
+pub returns-in_err-go_on-in-Some-clause-counted : goal.returns-in_err-go_on-in-Some-clause-counted
+returns-in_err-go_on-in-Some-clause-counted g c =
+    let p = err_from_is_err_and c.from_residual.result c.from_residual.ensures.1 in
+    calls_of_error g.M.MetaDisk.seen g.M.MetaDisk.fault_count g.M.MetaDisk.calls c.from_residual.result p.0 c.in_err-go_on-in-Some.field-0.0 c.args.self.now _ c.go_on.new.self c.go_on.new.self p.1 refl refl refl refl
+    c.in_err-go_on-in-Some.ensures.counted
+
+pub returns-in-None-clause-counted : goal.returns-in-None-clause-counted
+returns-in-None-clause-counted g c =
+    same_calls g.M.MetaDisk.seen g.M.MetaDisk.fault_count g.M.MetaDisk.calls c.begin_next.result c.begin_next.result c.args.self.now _ c.begin_next.new.self c.begin_next.new.self refl refl refl refl (λ P ok. ok) c.begin_next.ensures.counted
+
+pub returns-in_ok-go_on-in-Some-clause-counted : goal.returns-in_ok-go_on-in-Some-clause-counted
+returns-in_ok-go_on-in-Some-clause-counted g c =
+    same_calls g.M.MetaDisk.seen g.M.MetaDisk.fault_count g.M.MetaDisk.calls done (Ok true) c.args.self.now _ c.go_on.new.self c.go_on.new.self refl refl refl refl (λ P ok. ok) c.in_ok-go_on-in-Some.ensures.counted
