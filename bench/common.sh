@@ -1,8 +1,9 @@
 # shellcheck shell=bash
 # What the benchmarks share. It is sourced, not run.
 #
-# Sets top and room (a folder that goes at the end), and has:
-#   build_program          builds the program, if there is none, and what times it; it comes before the next three
+# Sets top, program (the built one, or what PROGRAM names) and room (a folder that goes at the end), and has:
+#   have_program           builds the program, if there is none and PROGRAM names none
+#   build_program          does so, and builds what times it; it comes before the next three
 #   timed SESSION WORD..   runs the program on a session, puts its history into $room/history, and prints the seconds that
 #                          passed and the peak memory in MiB
 #   copies CALLS KIB       prints the seconds that so many calls take when each copies a grain of so many KiB
@@ -15,13 +16,17 @@
 set -eu
 
 top=$(cd -- "$(dirname -- "$(readlink -f -- "${BASH_SOURCE[0]}")")/.." && pwd)
-program=$top/crates/flashcopy/out/flashcopy
+program=${PROGRAM:-$top/crates/flashcopy/out/flashcopy}
 product_runs=$top/crates/product_runs/out/product_runs
 room=$(mktemp -d)
 trap 'rm -rf -- "$room"' EXIT
 
+have_program() {
+    if [[ -z ${PROGRAM-} ]]; then "$top/bin/flashcopy" run </dev/null; fi
+}
+
 build_program() {
-    "$top/bin/flashcopy" run </dev/null
+    have_program
     compile timed <<'END'
 #include <stdio.h>
 #include <sys/resource.h>

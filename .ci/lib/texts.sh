@@ -105,7 +105,7 @@ theorem_printed() {
     echo "== the theorems in docs/READING.md"
     local line file='' count=0
     while IFS= read -r line; do
-        if [[ $line =~ \(\`(fc_[a-z_]+/specs/[A-Za-z]+)\`\):$ ]]; then
+        if [[ $line =~ \(\`([a-z_]+/specs/[A-Za-z]+)\`\):$ ]]; then
             file=crates/${BASH_REMATCH[1]%%/*}/${BASH_REMATCH[1]#*/}.antt
         elif [[ $line == code:?* ]]; then
             count=$((count + 1))

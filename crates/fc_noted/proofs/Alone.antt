@@ -3,7 +3,6 @@ use Rattle.std.proofs.Common.{◌≡◌, ℕ, ◌+◌, ◌<◌, ◌≤◌, true,
 use Rattle.std.specs.Prelude.{Err, Result}
 use Rattle.std.proofs.lemmas.Bool.{cases_Bool}
 use Rattle.std.proofs.lemmas.List.{get_or_default}
-use Rattle.fc_agenda.specs.Goes.{stays}
 use Rattle.fc_base.specs.declared.request.Move.{Move}
 use Rattle.fc_base.specs.declared.size.GrainSize.{GrainSize}
 use Rattle.fc_changed.specs.Row.{Row}
@@ -36,11 +35,12 @@ use Rattle.fc_metadisk.specs.Disk.{LeavesOnly}
 use Rattle.fc_noted.proofs.Data.{acted_none, hand_none, have_still, matches_none, same_ask, since_then}
 use Rattle.fc_noted.proofs.Fitting.{IsFit, alone_fits}
 use Rattle.fc_noted.proofs.GoingAlong.{matches_along}
-use Rattle.fc_noted.proofs.InHand.{alone_recovered, doing_counted, now_inside, recovered_of, stands_recovered}
+use Rattle.fc_noted.proofs.InHand.{alone_recovered, now_inside, recovered_of}
 use Rattle.fc_noted.proofs.MeteringHand.{moved_so, uncopied_so}
 use Rattle.fc_noted.proofs.MeteringNoted.{goes_into_record, so_far_put}
-use Rattle.fc_noted.proofs.Putting.{hold_both, put_keeps, put_leaves, put_says, put_stops, same_stop}
+use Rattle.fc_noted.proofs.Putting.{by_grain, put_keeps, put_leaves, put_says, recovers_with, recovers_without, way_leaves, way_stopped}
 use Rattle.fc_noted.proofs.Safe.{safe_by}
+use Rattle.fc_noted.proofs.Stepping.{way_goes, way_stops}
 use Rattle.fc_noted.specs.Making.{CountsInto, WayMade, done}
 use Rattle.fc_noted.specs.Noted.{IsDoing}
 use Rattle.fc_noted.specs.Stopping.{HasStopped, HoldStill, HoldsTheSame, LeavesRecoverable, MayBeRecovered, MoreFailed}
@@ -140,29 +140,22 @@ module _ {C D : Type 0} (seen : D → List ℕ) (may_leave : D → List ℕ → 
     both : IsSoundImage (after_record d.keeps.image (uncopied m)) × (kept_in (after_record d.keeps.image (uncopied m)) ≡ kept_after d.point.kept (uncopied m))
     both = put_says d.keeps.image d.point.kept x d.keeps.sound d.keeps.kept fit
 
-    same_grain : n.store.control.grain ≡ d.begun.control.grain
-    same_grain = ap (λ (s : StoreView). s.control.grain) d.since
-
     abbrev Recovers : List LaneView → MetaImage → Type 0
     Recovers lanes i = MayBeRecovered n.store.control.grain n.script n.named lanes w least i
 
-    by_grain : (lanes : List LaneView) (i : MetaImage) → MayBeRecovered d.begun.control.grain n.script n.named lanes w least i → MayBeRecovered n.store.control.grain n.script n.named lanes w least i
-    by_grain lanes i r = subst (λ (g : GrainSize). MayBeRecovered g n.script n.named lanes w least i) (sym same_grain) r
+    with_it : (image : MetaImage) → IsSoundImage image → kept_in image ≡ kept_after d.point.kept (uncopied m) → MayBeRecovered d.begun.control.grain n.script n.named n.store.lanes w least image
+    with_it image = alone_recovered seen may_leave old way history w least d none m image next copies
 
-    without : MayBeRecovered n.store.control.grain n.script n.named n.store.lanes w least d.keeps.image
-    without = by_grain n.store.lanes d.keeps.image (stands_recovered seen may_leave old way history w least d)
-
-    with_it : MayBeRecovered n.store.control.grain n.script n.named n.store.lanes w least (after_record d.keeps.image (uncopied m))
-    with_it = by_grain n.store.lanes (after_record d.keeps.image x) (alone_recovered seen may_leave old way history w least d none m (after_record d.keeps.image x) next copies both.0 both.1)
+    by_size : (lanes : List LaneView) (i : MetaImage) → MayBeRecovered d.begun.control.grain n.script n.named lanes w least i → MayBeRecovered n.store.control.grain n.script n.named lanes w least i
+    by_size = by_grain seen may_leave n way history w least d x fit with_it
 
     -- ---- an error of the disk of metadata
 
     alone_stops : HasStopped may_leave old left w least
-    alone_stops = put_stops seen may_leave moment left_since counts_now old left w least d.keeps.image x d.keeps.says run d.keeps.volumes (doing_counted seen may_leave old way history w least d) without with_it
+    alone_stops = way_stopped seen may_leave n way history w least d x fit with_it moment left_since counts_now meta calls n.marks run
 
     failed_leaves : LeavesOnly moment left_since n.meta.disk meta.disk (LeavesRecoverable old left w least)
-    failed_leaves =
-        put_leaves seen may_leave moment left_since counts_now old left w least d.keeps.image x d.keeps.says run (hold_both n.store n.store n.script n.named w least d.keeps.image x refl without with_it)
+    failed_leaves = way_leaves seen may_leave n way history w least d x fit with_it moment left_since counts_now meta calls n.marks run n.under_way
 
     -- what is asked for goes so far into metadata
     alone_into : CountsInto seen old left history w
@@ -221,14 +214,14 @@ module _ {C D : Type 0} (seen : D → List ℕ) (may_leave : D → List ℕ → 
 
       still_without : HoldStill n.store.lanes store.lanes → MayBeRecovered n.store.control.grain n.script n.named store.lanes w least d.keeps.image
       still_without still =
-          by_grain store.lanes d.keeps.image
+          by_size store.lanes d.keeps.image
           (recovered_of grain n.script n.named store.lanes w least (request_of way.doing.steps.ask) d.point.kept d.keeps.image d.asked d.keeps.sound d.keeps.kept
           (λ back hold. safe_still d.point.kept back way.doing.steps.stop none_stopped
           (stop_law_holds.rests grain w least (request_of way.doing.steps.ask) d.steps d.before (steps_done way.doing.steps) way.doing.steps.stop d.point back hand.begins hand.came (still_agree still back hold))))
 
       still_with : HoldStill n.store.lanes store.lanes → MayBeRecovered n.store.control.grain n.script n.named store.lanes w least (after_record d.keeps.image (uncopied m))
       still_with still =
-          by_grain store.lanes (after_record d.keeps.image x)
+          by_size store.lanes (after_record d.keeps.image x)
           (recovered_of grain n.script n.named store.lanes w least (request_of way.doing.steps.ask) (kept_after d.point.kept x) (after_record d.keeps.image x) d.asked both.0 both.1
           (λ back hold. safe_still (kept_after d.point.kept x) back None refl
           (stop_law_holds.rests grain w least (request_of way.doing.steps.ask) d.steps d.before (steps_done way.doing.steps + 1) None (noted x d.point) back hand.begins
@@ -244,7 +237,8 @@ module _ {C D : Type 0} (seen : D → List ℕ) (may_leave : D → List ℕ → 
       alone_leaves =
           put_leaves seen may_leave moment left_since counts_now old new w least d.keeps.image x d.keeps.says run
           (λ lanes may. elim may [
-            | inl e ↦ subst (λ (ls : List LaneView). Recovers ls d.keeps.image × Recovers ls (after_record d.keeps.image x)) (sym e) (without, with_it)
+            | inl e ↦ subst (λ (ls : List LaneView). Recovers ls d.keeps.image × Recovers ls (after_record d.keeps.image x)) (sym e)
+                (recovers_without seen may_leave n way history w least d x fit with_it, recovers_with seen may_leave n way history w least d x fit with_it)
             | inr e ↦ subst (λ (ls : List LaneView). Recovers ls d.keeps.image × Recovers ls (after_record d.keeps.image x)) (sym e.0) (still_without e.1, still_with e.1)
           ])
 
@@ -278,20 +272,10 @@ module _ {C D : Type 0} (seen : D → List ℕ) (may_leave : D → List ℕ → 
   pub alone_made : (end : StepEnd) (doing : Doing) (store : StoreView) (step : IsStepOf way.doing (lane_in n.store way.place) end doing (lane_in store way.place)) (is : IsInLane way.place n.store store) → IsResting seen may_leave meta →
       found seen meta ≡ found_with (found seen n.meta) (uncopied m ∷ []) → room_of seen meta ≡ room_of seen n.meta → Puts → (history : HistoryState) →
       WayMade seen may_leave moment left_since done n way (record n { store = store; meta = meta; calls = calls; under_way = Some (record { place = way.place; doing = doing; due = None }) }) history history
-  alone_made end doing store step is rests says size metered history =
-      record {
-        on = λ w least d. inl (record {
-          same = refl;
-          live = live;
-          grain = ap (λ (s : StoreView). s.control.grain) is;
-          at = alone_doing history w least d end doing store step is rests says size metered;
-          goes = λ read. stays;
-        });
-        any_moment = λ w least d. alone_leaves history w least d end doing store step is;
-        stopped = tt;
-        full = λ f. absurd cc;
-        into = λ f. absurd cc;
-      }
+  alone_made end doing store step is rests says size metered =
+      let next_way : UnderWay = record { place = way.place; doing = doing; due = None } in
+      way_goes seen may_leave moment left_since n (record n { store = store; meta = meta; calls = calls; under_way = Some next_way }) way (λ history w least d. alone_leaves history w least d end doing store step is) next_way live
+      (ap (λ (s : StoreView). s.control.grain) is) refl refl (λ history w least d. alone_doing history w least d end doing store step is rests says size metered)
 
   -- by the noted store behind the record
   pub alone_made_by : (mid : Noted C D) → mid ≡ record n { meta = meta; calls = calls } → (end : StepEnd) (doing : Doing) (store : StoreView) → IsStepOf way.doing (lane_in mid.store way.place) end doing (lane_in store way.place) →
@@ -305,12 +289,4 @@ module _ {C D : Type 0} (seen : D → List ℕ) (may_leave : D → List ℕ → 
 
   pub alone_failed : (result : Result (Unit {0}) NotedStop) (given stop : NotedStop) → result ≡ Err given → given ≡ stop → (stop ≡ LogFull → ⊥) → (history : HistoryState) →
       WayMade seen may_leave moment left_since result n way left history history
-  alone_failed result given stop e same other history =
-      subst (λ (z : Result (Unit {0}) NotedStop). WayMade seen may_leave moment left_since z n way left history history) (sym (e ∙ ap (λ (z : NotedStop). Err z) same))
-      (record {
-        on = tt;
-        any_moment = λ w least d. failed_leaves history w least d;
-        stopped = λ w least d. (refl, alone_stops history w least d);
-        full = λ f. absurd (other (same_stop stop f));
-        into = λ f w least d. alone_into history w least d;
-      })
+  alone_failed result given stop e same other = way_stops seen may_leave moment left_since n left way failed_leaves result given stop e same other alone_stops (λ history w least d is. alone_into history w least d)

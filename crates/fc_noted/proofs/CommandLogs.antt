@@ -25,7 +25,7 @@ use Rattle.fc_stands.specs.Store.{StandsFor, StoreView}
 use Rattle.fc_noted.proofs.Begun.{at_rest}
 use Rattle.fc_noted.proofs.Counting.{has_counted}
 use Rattle.fc_noted.proofs.Moments.{hold_either, resting_found, still_leaves}
-use Rattle.fc_noted.proofs.Putting.{same_stop}
+use Rattle.fc_noted.proofs.Stepping.{same_stop}
 use Rattle.fc_noted.specs.Making.{GoesBehind, IsHeldAt, KeepLanes, LeadsOn, StepMade, always}
 use Rattle.fc_noted.specs.Noted.{IsAt, IsAtBy, IsNotedAt, Logs}
 use Rattle.fc_noted.specs.Stopping.{HasStopped, LeavesRecoverable}

@@ -1,32 +1,30 @@
 -- A step of data of the entry that is under way: it is under way behind it too, with the record that is then due.
-use Rattle.std.proofs.Common.{◌≡◌, ◌≢◌, ◌⊎◌, ℕ, ◌<◌, ◌≤◌, Bool, true, false, Option, Some, None, List, length, map, set, All, slice_index_or, slice_set, refl, sym, ap, subst, ◌∙◌, inl, inr, get_or-set_same, arith}
-use Rattle.std.specs.List.{list_any}
+use Rattle.std.proofs.Common.{◌≡◌, ◌≢◌, ℕ, ◌<◌, ◌≤◌, true, Option, Some, None, List, length, map, slice_index_or, slice_set, refl, sym, ap, subst, ◌∙◌}
 use Rattle.std.proofs.lemmas.List.{get_or_default, set-set}
 use Rattle.std.proofs.lemmas.List.Elements.{All-get_or, All-set}
 use Rattle.fc_agenda.specs.Goes.{stays}
 use Rattle.fc_base.specs.declared.size.GrainSize.{GrainSize}
-use Rattle.fc_base.specs.declared.volume.Volume.{Volume}
 use Rattle.fc_changed.specs.Row.{Row}
 use Rattle.fc_entry.specs.HistoryState.{HistoryState}
 use Rattle.fc_grains.specs.Grains.{total_of}
 use Rattle.fc_held.specs.Held.{HasVolumes, HaveVolumes, MatchAll}
-use Rattle.fc_image.specs.declared.image.MetaImage.{MetaImage}
 use Rattle.fc_image.specs.declared.record.MetaRecord.{MetaRecord}
-use Rattle.fc_kept.specs.Actions.{is_unmarked}
 use Rattle.fc_kept.specs.Disks.{NamedDisk}
 use Rattle.fc_lane.specs.Lane.{LaneView}
 use Rattle.fc_lane.specs.declared.doing.Doing.{Doing}
 use Rattle.fc_legal.specs.Agenda.{Asks}
 use Rattle.fc_legal.specs.Whole.{Whole, part_of_rows, lane_at}
+use Rattle.fc_metadisk.specs.Disk.{LeavesOnly}
 use Rattle.fc_noted.proofs.GoingAlong.{matches_along}
 use Rattle.fc_noted.proofs.InHand.{in_hand, now_inside}
 use Rattle.fc_noted.proofs.MeteringHand.{data_so}
 use Rattle.fc_noted.proofs.MeteringNoted.{so_far_same}
 use Rattle.fc_noted.proofs.Moments.{doing_found, hold_either, still_leaves}
+use Rattle.fc_noted.proofs.Stepping.{way_goes}
 use Rattle.fc_noted.specs.Making.{CopiesNext, IsMarkedBy, IsMarkedNext, WayMade, done}
 use Rattle.fc_noted.specs.Metered.{Acted}
 use Rattle.fc_noted.specs.Noted.{CountsSoFar, IsDoing, Keeps}
-use Rattle.fc_noted.specs.Stopping.{MayBeRecovered, MayHold}
+use Rattle.fc_noted.specs.Stopping.{LeavesRecoverable}
 use Rattle.fc_noted.specs.declared.noted.Noted.{Noted}
 use Rattle.fc_noted.specs.declared.noted.UnderWay.{UnderWay}
 use Rattle.fc_parts.specs.Law.{IsInVolume}
@@ -44,7 +42,6 @@ use Rattle.fc_steps.specs.declared.stepping.Next.TheVariants.{Move as NextMove, 
 use Rattle.fc_steps.specs.declared.stepping.Steps.{Steps}
 use Rattle.fc_store.specs.Stepping.{IsInLane, IsStepOf, lane_in, no_lane}
 use Rattle.law_crash.specs.Doing.{with_disks}
-use Rattle.law_crash.specs.Points.{Point}
 use Rattle.law_noted.proofs.DataInHand.{same_new, same_old}
 use Rattle.law_noted.proofs.DataWhole.{data_law_holds}
 use Rattle.law_noted.proofs.HandOn.{is_wanted}
@@ -224,19 +221,16 @@ module _ {C D : Type 0} (seen : D → List ℕ) (may_leave : D → List ℕ → 
   goes_behind : (history : HistoryState) (w : Whole) (least : List Row) → IsDoing seen may_leave (record n { under_way = Some way }) way history w least → IsDoing seen may_leave behind way_behind history w least
   goes_behind history w least d = data_doing seen may_leave old way history w least d none end doing store step is next marked copies
 
-  pub data_made : (history : HistoryState) → WayMade seen may_leave moment left_since done n way behind history history
+  leaves_behind : (history : HistoryState) (w : Whole) (least : List Row) → IsDoing seen may_leave (record n { under_way = Some way }) way history w least →
+      LeavesOnly moment left_since n.meta.disk n.meta.disk (LeavesRecoverable (record n { under_way = Some way }) behind w least)
   unfolding goes_behind data_doing doing_on kept_on
-  data_made history =
-      record {
-        on = λ w least d. inl (record { same = refl; live = live; grain = ap (λ (s : StoreView). s.control.grain) is; at = goes_behind history w least d; goes = λ read. stays });
-        any_moment = λ w least d.
-            still_leaves seen may_leave moment left_since only_now old behind w least d.keeps.image refl d.keeps.says d.keeps.rests.durable
-            (hold_either n.store store n.script n.named w least d.keeps.image (ap (λ (s : StoreView). s.control.grain) is) (doing_found seen may_leave old way history w least d)
-            (doing_found seen may_leave behind way_behind history w least (goes_behind history w least d)));
-        stopped = tt;
-        full = λ f. absurd cc;
-        into = λ f. absurd cc;
-      }
+  leaves_behind history w least d =
+      still_leaves seen may_leave moment left_since only_now old behind w least d.keeps.image refl d.keeps.says d.keeps.rests.durable
+      (hold_either n.store store n.script n.named w least d.keeps.image (ap (λ (s : StoreView). s.control.grain) is) (doing_found seen may_leave old way history w least d)
+      (doing_found seen may_leave behind way_behind history w least (goes_behind history w least d)))
+
+  pub data_made : (history : HistoryState) → WayMade seen may_leave moment left_since done n way behind history history
+  data_made = way_goes seen may_leave moment left_since n behind way leaves_behind way_behind live (ap (λ (s : StoreView). s.control.grain) is) refl refl goes_behind
 
   -- with the record that is said to be due
   pub data_made_by : (due : Option MetaRecord) → due ≡ record_after (next_of way.doing.steps) end way.doing.steps.grain → (history : HistoryState) →

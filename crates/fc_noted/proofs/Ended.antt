@@ -36,9 +36,9 @@ use Rattle.fc_noted.proofs.Holding.{HoldSame, have_same, match_same, one_same}
 use Rattle.fc_noted.proofs.InHand.{doing_counted, now_inside, recovered_of, safe}
 use Rattle.fc_noted.proofs.MeteringHand.{ends_so}
 use Rattle.fc_noted.proofs.Moments.{doing_found, hold_either, still_leaves}
-use Rattle.fc_noted.proofs.Putting.{same_stop}
 use Rattle.fc_noted.proofs.Rising.{counted_same}
 use Rattle.fc_noted.proofs.Safe.{safe_by}
+use Rattle.fc_noted.proofs.Stepping.{same_stop}
 use Rattle.fc_noted.specs.Making.{GoesBehind, WayMade}
 use Rattle.fc_noted.specs.Metered.{AreActionsOf, Metered, Metered.access, after_actions}
 use Rattle.fc_noted.specs.Noted.{Counts, IsAtBy, IsDoing, IsNotedAt, Keeps, Logs}

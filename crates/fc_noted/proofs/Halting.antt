@@ -1,14 +1,16 @@
 -- Where a step stopped: the first entries of its line are logged, and with them what is told may be recovered.
-use Rattle.std.proofs.Common.{◌≡◌, ℕ, ◌≤◌, Bool, Option, Some, None, List, length, false, Err, refl, sym, ap, subst, ◌∙◌, arith}
+use Rattle.std.proofs.Common.{◌≡◌, ℕ, ◌≤◌, Bool, Option, Some, None, List, [], ◌∷◌, length, false, Err, refl, sym, ap, subst, ◌∙◌, arith}
 use Rattle.std.specs.Prelude.{IsErrOf}
-use Rattle.fc_agenda.specs.Goes.{Goes, GoesAsking}
+use Rattle.std.proofs.lemmas.List.{append-nil}
+use Rattle.fc_agenda.specs.Goes.{Goes, GoesAsking, stays}
 use Rattle.fc_base.specs.declared.request.Request.{Request}
 use Rattle.fc_base.specs.declared.size.GrainSize.{GrainSize}
+use Rattle.fc_blocks.specs.Segments.{single}
 use Rattle.fc_changed.specs.Row.{Row}
 use Rattle.fc_entry.specs.HistoryState.{HistoryState}
 use Rattle.fc_format.specs.Halves.{recovered}
 use Rattle.fc_legal.specs.Added.{Adds, IsOf}
-use Rattle.fc_legal.specs.Agenda.{Agenda, Reading, session_rules}
+use Rattle.fc_legal.specs.Agenda.{Agenda, Reading, Session, session_rules}
 use Rattle.fc_legal.specs.Whole.{Whole}
 use Rattle.fc_marks.specs.declared.error.NotedStop.TheVariants.{LogFull, NoMemory, MetaFailed, MetaFull}
 use Rattle.fc_marks.specs.declared.error.NotedStop.{NotedStop}
@@ -19,7 +21,7 @@ use Rattle.fc_noted.proofs.Moments.{doing_found, resting_found}
 use Rattle.fc_noted.proofs.Resting.{rests_safe}
 use Rattle.fc_noted.specs.Making.{StepMade}
 use Rattle.fc_noted.specs.Noted.{IsAt, IsAtBy, IsNotedAt}
-use Rattle.fc_noted.specs.Stopping.{AsksSome, Halts, HasStopped, IsAskedOf, IsAskedSoon, Leaves, MayBeRecovered, MoreFailed}
+use Rattle.fc_noted.specs.Stopping.{AsksSome, Halts, HasStopped, IsAskedOf, IsAskedSoon, Leaves, LineHalts, MayBeRecovered, MoreFailed}
 use Rattle.fc_noted.specs.declared.noted.Noted.{Noted}
 use Rattle.fc_noted.specs.declared.noted.UnderWay.{UnderWay}
 use Rattle.fc_script.specs.Passage.{GoesOn}
@@ -146,3 +148,20 @@ leaves_resting seen may_leave n history w least a at room =
         λ back hold. (least, None, tt, rests_safe seen may_leave n history w least None (MoreFailed w n.store.lanes) at back few hold),
       );
     }
+
+-- ---- a line that isn't taken up
+
+pub not_taken_up : {C D : Type 0} (seen : D → List ℕ) (may_leave : D → List ℕ → Type 0) (n same : Noted C D) (history : HistoryState) → same ≡ n → length history.entries ≤ 262144 →
+    (read : Reading) (bytes : List ℕ) (w : Whole) (least : List Row) → IsNotedAt seen may_leave n history w least →
+    LineHalts may_leave read NoMemory n (record same { live = false }) bytes w history history
+not_taken_up {C} {D} seen may_leave n same history is room read bytes w least at =
+    subst (λ (x : Noted C D). LineHalts may_leave read NoMemory n (record x { live = false }) bytes w history history) (sym is) (
+      w,
+      Session (single bytes ∷ []),
+      at.told.1,
+      record { volumes = leaves.volumes; counted = leaves.counted; found = leaves.found },
+      record { more = []; entries = sym (append-nil history.entries); are = stays },
+    )
+  where
+    leaves : Leaves n.store.control.grain may_leave n w (Session (single bytes ∷ []))
+    leaves = leaves_resting seen may_leave n history w least (Session (single bytes ∷ [])) at room

@@ -1,8 +1,7 @@
 -- A write that is next of an entry under way is marked.
-use Rattle.std.proofs.Common.{◌≡◌, ℕ, ◌≤◌, Bool, true, Option, Some, None, List, [], ◌∷◌, ◌++◌, refl, sym, ap, subst, ◌∙◌, inl, Vec, Global}
+use Rattle.std.proofs.Common.{◌≡◌, ℕ, ◌≤◌, Bool, true, Option, Some, None, List, [], ◌∷◌, ◌++◌, refl, sym, ap, subst, ◌∙◌, Vec, Global}
 use Rattle.std.specs.List.{list_any}
 use Rattle.std.specs.Prelude.{Err, Result}
-use Rattle.fc_agenda.specs.Goes.{stays}
 use Rattle.fc_base.specs.declared.ids.GrainNo.{GrainNo}
 use Rattle.fc_base.specs.declared.ids.VolId.{VolId}
 use Rattle.fc_base.specs.declared.request.WritePart.{WritePart}
@@ -11,13 +10,14 @@ use Rattle.fc_changed.specs.Row.{Row}
 use Rattle.fc_entry.specs.HistoryState.{HistoryState}
 use Rattle.fc_format.specs.Halves.{recovered}
 use Rattle.fc_held.specs.Held.{MatchAll}
-use Rattle.fc_image.specs.Records.{after_record}
 use Rattle.fc_image.specs.declared.image.MetaImage.{MetaImage}
 use Rattle.fc_image.specs.declared.record.MetaRecord.{MetaRecord}
 use Rattle.fc_image.specs.declared.record.MetaRecord.TheVariants.{Changing}
 use Rattle.fc_kept.specs.Actions.{Action.Note, is_unmarked}
 use Rattle.fc_kept.specs.Disks.{NamedDisk}
+use Rattle.fc_kept.specs.Images.{kept_in}
 use Rattle.fc_kept.specs.Kept.{Kept, kept_after, rows_kept}
+use Rattle.fc_kept.specs.Sound.{IsSoundImage}
 use Rattle.fc_lane.specs.Lane.{LaneView}
 use Rattle.fc_legal.specs.Whole.{Whole}
 use Rattle.fc_marks.specs.Marks.{is_open_any, marked}
@@ -31,18 +31,18 @@ use Rattle.fc_meta.specs.declared.meta.Meta.{Meta}
 use Rattle.fc_metadisk.specs.Disk.{LeavesOnly}
 use Rattle.fc_noted.proofs.Data.{acted_none, hand_none, rows_are}
 use Rattle.fc_noted.proofs.Fitting.{IsFit, mark_fits}
-use Rattle.fc_noted.proofs.InHand.{doing_counted, mark_recovered, stands_recovered}
+use Rattle.fc_noted.proofs.InHand.{doing_counted, mark_recovered}
 use Rattle.fc_noted.proofs.MeteringHand.{marked_so}
 use Rattle.fc_noted.proofs.MeteringNoted.{goes_into_record, so_far_put}
 use Rattle.fc_noted.proofs.Moments.{doing_found, hold_either, still_leaves}
-use Rattle.fc_noted.proofs.Putting.{hold_both, put_doing, put_keeps, put_leaves, put_says, put_stops, same_stop}
+use Rattle.fc_noted.proofs.Putting.{put_doing, put_keeps, way_leaves, way_stopped}
+use Rattle.fc_noted.proofs.Stepping.{way_goes, way_stops}
 use Rattle.fc_noted.specs.Making.{CountsInto, WayMade, done}
 use Rattle.fc_noted.specs.Metered.{Acted}
 use Rattle.fc_noted.specs.Noted.{IsDoing}
 use Rattle.fc_noted.specs.Stopping.{HasStopped, LeavesRecoverable, MayBeRecovered}
 use Rattle.fc_noted.specs.declared.noted.Noted.{Noted}
 use Rattle.fc_noted.specs.declared.noted.UnderWay.{UnderWay}
-use Rattle.fc_stands.specs.Store.{StoreView}
 use Rattle.fc_steps.specs.Asking.{request_of}
 use Rattle.fc_steps.specs.UnderWay.{next_of}
 use Rattle.fc_steps.specs.declared.stepping.Next.TheVariants.{Own}
@@ -110,20 +110,8 @@ module _ {C D : Type 0} (seen : D → List ℕ) (may_leave : D → List ℕ → 
     fit : IsFit d.point.kept x
     fit = mark_fits grain w least way.place way.doing (lane_in d.begun way.place) (lane_in n.store way.place) d.steps d.before d.point hand part next due
 
-    abbrev Recovers : MetaImage → Type 0
-    Recovers i = MayBeRecovered n.store.control.grain n.script n.named n.store.lanes w least i
-
-    same_grain : n.store.control.grain ≡ d.begun.control.grain
-    same_grain = ap (λ (s : StoreView). s.control.grain) d.since
-
-    without : Recovers d.keeps.image
-    without = subst (λ (g : GrainSize). MayBeRecovered g n.script n.named n.store.lanes w least d.keeps.image) (sym same_grain) (stands_recovered seen may_leave old way history w least d)
-
-    with_it : Recovers (after_record d.keeps.image x)
-    with_it =
-        let both = put_says d.keeps.image d.point.kept x d.keeps.sound d.keeps.kept fit in
-        subst (λ (g : GrainSize). MayBeRecovered g n.script n.named n.store.lanes w least (after_record d.keeps.image x)) (sym same_grain)
-        (mark_recovered seen may_leave old way history w least d none part (after_record d.keeps.image x) next due both.0 both.1)
+    with_it : (image : MetaImage) → IsSoundImage image → kept_in image ≡ kept_after d.point.kept (Changing part.volume way.doing.steps.grain) → MayBeRecovered d.begun.control.grain n.script n.named n.store.lanes w least image
+    with_it image = mark_recovered seen may_leave old way history w least d none part image next due
 
     -- what it costs
     acted : Acted d.begun.control.grain (request_of way.doing.steps.ask) d.steps (steps_done way.doing.steps) way.doing.steps.stop None d.before.kept.rows (noted x d.point).kept.rows (d.counts.actions ++ Note x ∷ [])
@@ -145,15 +133,12 @@ module _ {C D : Type 0} (seen : D → List ℕ) (may_leave : D → List ℕ → 
         (put_keeps seen may_leave grain old new w way.due d.point x d.keeps fit rests says refl rows d.keeps.volumes (matches_mark grain n.named d.point.kept part way.doing.steps.grain.0 n.store.lanes d.point.disks matches))
         (so_far_put seen may_leave grain old new way way_new history.entries w d.steps d.before.kept.rows d.point.kept.rows (noted x d.point).kept.rows d.counts x acted size metered counted)
 
-    mark_leaves : LeavesOnly moment left_since n.meta.disk meta.disk (LeavesRecoverable old new w least)
-    mark_leaves = put_leaves seen may_leave moment left_since counts_now old new w least d.keeps.image x d.keeps.says run (hold_both n.store new.store n.script n.named w least d.keeps.image x refl without with_it)
+    mark_leaves : (after : Option UnderWay) → LeavesOnly moment left_since n.meta.disk meta.disk (LeavesRecoverable old (record n { meta = meta; calls = calls; marks = marks; under_way = after }) w least)
+    mark_leaves = way_leaves seen may_leave n way history w least d x fit with_it moment left_since counts_now meta calls marks run
 
     -- or it stopped
     mark_stops : HasStopped may_leave old left w least
-    mark_stops = put_stops seen may_leave moment left_since counts_now old left w least d.keeps.image x d.keeps.says run d.keeps.volumes (doing_counted seen may_leave old way history w least d) without with_it
-
-    failed_leaves : LeavesOnly moment left_since n.meta.disk meta.disk (LeavesRecoverable old left w least)
-    failed_leaves = put_leaves seen may_leave moment left_since counts_now old left w least d.keeps.image x d.keeps.says run (hold_both n.store left.store n.script n.named w least d.keeps.image x refl without with_it)
+    mark_stops = way_stopped seen may_leave n way history w least d x fit with_it moment left_since counts_now meta calls marks run
 
     -- what is asked for goes so far into metadata
     mark_into : CountsInto seen old left history w
@@ -161,14 +146,8 @@ module _ {C D : Type 0} (seen : D → List ℕ) (may_leave : D → List ℕ → 
 
   mark_made : IsResting seen may_leave meta → found seen meta ≡ found_with (found seen n.meta) (Changing part.volume way.doing.steps.grain ∷ []) → room_of seen meta ≡ room_of seen n.meta → Puts → (history : HistoryState) →
       WayMade seen may_leave moment left_since done n way new history history
-  mark_made rests says size metered history =
-      record {
-        on = λ w least d. inl (record { same = refl; live = live; grain = refl; at = mark_doing history w least d rests says size metered; goes = λ read. stays });
-        any_moment = λ w least d. mark_leaves history w least d;
-        stopped = tt;
-        full = λ f. absurd cc;
-        into = λ f. absurd cc;
-      }
+  mark_made rests says size metered =
+      way_goes seen may_leave moment left_since n new way (λ history w least d. mark_leaves history w least d (Some way_new)) way_new live refl refl refl (λ history w least d. mark_doing history w least d rests says size metered)
 
   -- with the way as it is
   pub mark_made_by : IsResting seen may_leave meta → found seen meta ≡ found_with (found seen n.meta) (Changing part.volume way.doing.steps.grain ∷ []) → room_of seen meta ≡ room_of seen n.meta → Puts → (history : HistoryState) →
@@ -179,38 +158,24 @@ module _ {C D : Type 0} (seen : D → List ℕ) (may_leave : D → List ℕ → 
 
   pub mark_failed : (result : Result (Unit {0}) NotedStop) (given stop : NotedStop) → result ≡ Err given → given ≡ stop → (stop ≡ LogFull → ⊥) → (history : HistoryState) →
       WayMade seen may_leave moment left_since result n way (left) history history
-  mark_failed result given stop e same other history =
-      subst (λ (z : Result (Unit {0}) NotedStop). WayMade seen may_leave moment left_since z n way (left) history history) (sym (e ∙ ap (λ (z : NotedStop). Err z) same))
-      (record {
-        on = tt;
-        any_moment = λ w least d. failed_leaves history w least d;
-        stopped = λ w least d. (refl, mark_stops history w least d);
-        full = λ f. absurd (other (same_stop stop f));
-        into = λ f w least d. mark_into history w least d;
-      })
+  mark_failed result given stop e same other =
+      way_stops seen may_leave moment left_since n left way (λ history w least d. mark_leaves history w least d n.under_way) result given stop e same other mark_stops (λ history w least d is. mark_into history w least d)
 
 -- refused before the disk of metadata is called
 module _ {C D : Type 0} (seen : D → List ℕ) (may_leave : D → List ℕ → Type 0) (moment : D → ℕ) (left_since : D → ℕ → List ℕ → Type 0) (only_now : (disk : D) (c : List ℕ) → left_since disk (moment disk) c → may_leave disk c)
     (n : Noted C D) (way : UnderWay) (marks : Vec Mark Global) where
   pub mark_refused : (result : Result (Unit {0}) NotedStop) (given stop : NotedStop) → result ≡ Err given → given ≡ stop → (stop ≡ LogFull → ⊥) → (stop ≡ MetaFailed → ⊥) → (history : HistoryState) →
       WayMade seen may_leave moment left_since result n way (record n { marks = marks }) history history
-  mark_refused result given stop e same other quiet history =
+  mark_refused result given stop e same other quiet =
       let old : Noted C D = record n { under_way = Some way } in
       let new : Noted C D = record n { marks = marks } in
-      subst (λ (z : Result (Unit {0}) NotedStop). WayMade seen may_leave moment left_since z n way (record n { marks = marks }) history history) (sym (e ∙ ap (λ (z : NotedStop). Err z) same))
-      (record {
-        on = tt;
-        any_moment = λ w least d.
-            still_leaves seen may_leave moment left_since only_now old new w least d.keeps.image refl d.keeps.says d.keeps.rests.durable
-            (hold_either n.store n.store n.script n.named w least d.keeps.image refl (doing_found seen may_leave old way history w least d) (doing_found seen may_leave old way history w least d));
-        stopped = λ w least d. (
-          refl,
-          record {
-            volumes = d.keeps.volumes;
-            counted = doing_counted seen may_leave old way history w least d;
-            leaves = λ c left. (d.keeps.image, ap recovered (d.keeps.rests.durable c left) ∙ d.keeps.says, doing_found seen may_leave old way history w least d);
-          },
-        );
-        full = λ f. absurd (other (same_stop stop f));
-        into = λ f. absurd (quiet (same_stop stop f));
+      way_stops seen may_leave moment left_since n new way
+      (λ history w least d. still_leaves seen may_leave moment left_since only_now old new w least d.keeps.image refl d.keeps.says d.keeps.rests.durable
+      (hold_either n.store n.store n.script n.named w least d.keeps.image refl (doing_found seen may_leave old way history w least d) (doing_found seen may_leave old way history w least d)))
+      result given stop e same other
+      (λ history w least d. record {
+        volumes = d.keeps.volumes;
+        counted = doing_counted seen may_leave old way history w least d;
+        leaves = λ c left. (d.keeps.image, ap recovered (d.keeps.rests.durable c left) ∙ d.keeps.says, doing_found seen may_leave old way history w least d);
       })
+      (λ history w least d failed. absurd (quiet failed))

@@ -1,6 +1,5 @@
 -- A record that an entry under way puts: what metadata says behind it, and what a stop leaves at each moment of it.
-use Rattle.std.specs.Prelude.{Err, IsErrOf, Result}
-use Rattle.std.proofs.Common.{◌≡◌, ℕ, ◌≤◌, Bool, Option, Some, None, List, [], ◌∷◌, sym, ap, subst, ◌∙◌, inl, inr, Vec, Global}
+use Rattle.std.proofs.Common.{◌≡◌, ℕ, ◌≤◌, Option, Some, None, List, [], ◌∷◌, refl, sym, ap, subst, ◌∙◌, inl, inr, Vec, Global}
 use Rattle.fc_base.specs.declared.size.GrainSize.{GrainSize}
 use Rattle.fc_changed.specs.Row.{Row}
 use Rattle.fc_entry.specs.HistoryState.{HistoryState}
@@ -17,13 +16,13 @@ use Rattle.fc_lane.specs.Lane.{LaneView}
 use Rattle.fc_legal.specs.Whole.{Whole}
 use Rattle.fc_marks.specs.Marks.{marked}
 use Rattle.fc_marks.specs.declared.marks.Mark.{Mark}
-use Rattle.fc_marks.specs.declared.error.NotedStop.{NotedStop}
 use Rattle.fc_meta.proofs.Moments.{weaker}
 use Rattle.fc_meta.specs.Answers.{LeavesEither, found_with}
 use Rattle.fc_meta.specs.States.{IsResting, found}
 use Rattle.fc_meta.specs.declared.meta.Meta.{Meta}
 use Rattle.fc_metadisk.specs.Disk.{LeavesOnly}
 use Rattle.fc_noted.proofs.Fitting.{IsFit}
+use Rattle.fc_noted.proofs.InHand.{doing_counted, stands_recovered}
 use Rattle.fc_noted.proofs.Tidying.{ids_with, image_with}
 use Rattle.fc_noted.specs.Noted.{CountsSoFar, IsDoing, Keeps}
 use Rattle.fc_noted.specs.Stopping.{AreCounted, HasStopped, LeavesRecoverable, MayBeRecovered, MayHold}
@@ -137,9 +136,34 @@ hold_both old new script named w least image x same without with_record lanes ma
       | inr e ↦ subst Both (sym (e.0 ∙ same)) (without, with_record)
     ]
 
-abbrev refused : NotedStop → Result Bool NotedStop
-refused stop = Err stop
+-- ---- for the entry that is under way
 
--- an error is the one that is answered
-pub same_stop : (stop : NotedStop) {told : NotedStop} → IsErrOf (refused stop) told → stop ≡ told
-same_stop stop e = cc
+module _ {C D : Type 0} (seen : D → List ℕ) (may_leave : D → List ℕ → Type 0) (n : Noted C D) (way : UnderWay) (history : HistoryState) (w : Whole) (least : List Row) (d : IsDoing seen may_leave (record n { under_way = Some way }) way history w least)
+    (x : MetaRecord) (fit : IsFit d.point.kept x)
+    (recovers : (image : MetaImage) → IsSoundImage image → kept_in image ≡ kept_after d.point.kept x → MayBeRecovered d.begun.control.grain n.script n.named n.store.lanes w least image) where
+  abbrev old : Noted C D
+  old = record n { under_way = Some way }
+
+  -- by the size of grains that the store has
+  pub by_grain : (lanes : List LaneView) (image : MetaImage) → MayBeRecovered d.begun.control.grain n.script n.named lanes w least image → MayBeRecovered n.store.control.grain n.script n.named lanes w least image
+  by_grain lanes image m = subst (λ (g : GrainSize). MayBeRecovered g n.script n.named lanes w least image) (sym (ap (λ (s : StoreView). s.control.grain) d.since)) m
+
+  pub recovers_without : MayBeRecovered n.store.control.grain n.script n.named n.store.lanes w least d.keeps.image
+  recovers_without = by_grain n.store.lanes d.keeps.image (stands_recovered seen may_leave old way history w least d)
+
+  pub recovers_with : MayBeRecovered n.store.control.grain n.script n.named n.store.lanes w least (after_record d.keeps.image x)
+  recovers_with =
+      let both = put_says d.keeps.image d.point.kept x d.keeps.sound d.keeps.kept fit in
+      by_grain n.store.lanes (after_record d.keeps.image x) (recovers (after_record d.keeps.image x) both.0 both.1)
+
+  module _ (moment : D → ℕ) (left_since : D → ℕ → List ℕ → Type 0) (counts_now : (disk : D) (t : ℕ) (c : List ℕ) → t ≤ moment disk → may_leave disk c → left_since disk t c) (meta : Meta D) (calls : ℕ) (marks : Vec Mark Global)
+      (run : LeavesOnly moment left_since n.meta.disk meta.disk (LeavesEither (found seen n.meta) (found_with (found seen n.meta) (x ∷ [])))) where
+    pub way_leaves : (next : Option UnderWay) → LeavesOnly moment left_since n.meta.disk meta.disk (LeavesRecoverable (record n { under_way = Some way }) (record n { meta = meta; calls = calls; marks = marks; under_way = next }) w least)
+    way_leaves next =
+        put_leaves seen may_leave moment left_since counts_now old (record n { meta = meta; calls = calls; marks = marks; under_way = next }) w least d.keeps.image x d.keeps.says run
+        (hold_both n.store n.store n.script n.named w least d.keeps.image x refl recovers_without recovers_with)
+
+    pub way_stopped : HasStopped may_leave (record n { under_way = Some way }) (record n { meta = meta; calls = calls; marks = marks }) w least
+    way_stopped =
+        put_stops seen may_leave moment left_since counts_now old (record n { meta = meta; calls = calls; marks = marks }) w least d.keeps.image x d.keeps.says run d.keeps.volumes (doing_counted seen may_leave old way history w least d)
+        recovers_without recovers_with

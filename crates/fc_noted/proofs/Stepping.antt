@@ -1,11 +1,22 @@
 -- What a step makes, by what is made with the entry that was taken out of the noted store; and behind an error no step may be made.
-use Rattle.std.proofs.Common.{◌≡◌, ℕ, Bool, true, false, Option, List, sym, ap, subst, ◌∙◌}
-use Rattle.std.specs.Prelude.{Err, Ok, Result, is_err}
+use Rattle.std.proofs.Common.{◌≡◌, ℕ, Bool, true, false, Option, Some, List, refl, sym, ap, subst, ◌∙◌, inl}
+use Rattle.std.specs.Prelude.{Err, IsErrOf, Ok, Result, is_err}
+use Rattle.fc_agenda.specs.Goes.{stays}
+use Rattle.fc_base.specs.declared.size.GrainSize.{GrainSize}
+use Rattle.fc_changed.specs.Row.{Row}
 use Rattle.fc_entry.specs.HistoryState.{HistoryState}
+use Rattle.fc_legal.specs.Whole.{Whole}
+use Rattle.fc_marks.specs.declared.error.NotedStop.TheVariants.{LogFull, MetaFailed}
 use Rattle.fc_marks.specs.declared.error.NotedStop.{NotedStop}
-use Rattle.fc_noted.specs.Making.{StepMade}
+use Rattle.fc_metadisk.specs.Disk.{LeavesOnly}
+use Rattle.fc_noted.specs.Making.{CountsInto, StepMade, WayMade, done}
+use Rattle.fc_noted.specs.Noted.{IsAtBy, IsDoing}
+use Rattle.fc_noted.specs.Stopping.{HasStopped, LeavesRecoverable}
 use Rattle.fc_noted.specs.declared.noted.Noted.{Noted}
 use Rattle.fc_noted.specs.declared.noted.UnderWay.{UnderWay}
+use Rattle.fc_script.specs.Passage.{GoesOn}
+use Rattle.fc_script.specs.Script.{agenda_of}
+use Rattle.fc_script.specs.declared.script.Script.{Script}
 
 module _ {C D : Type 0} (seen : D → List ℕ) (may_leave : D → List ℕ → Type 0) (moment : D → ℕ) (left_since : D → ℕ → List ℕ → Type 0) (old new : Noted C D) (before after : HistoryState) where
   -- the entry that is under way is this one
@@ -40,3 +51,49 @@ module _ {C D : Type 0} (seen : D → List ℕ) (may_leave : D → List ℕ → 
       StepMade seen may_leave moment left_since result old (record new { live = false }) before after
   step_ended (Ok more) e made = absurd cc
   step_ended (Err stop) e made = ended stop made
+
+-- ---- with the entry that was taken out
+
+abbrev refused : NotedStop → Result Bool NotedStop
+refused stop = Err stop
+
+-- an error is the one that is answered
+pub same_stop : (stop : NotedStop) {told : NotedStop} → IsErrOf (refused stop) told → stop ≡ told
+same_stop stop e = cc
+
+module _ {C D : Type 0} (seen : D → List ℕ) (may_leave : D → List ℕ → Type 0) (moment : D → ℕ) (left_since : D → ℕ → List ℕ → Type 0) (n new : Noted C D) (way : UnderWay)
+    (leaves : (history : HistoryState) (w : Whole) (least : List Row) → IsDoing seen may_leave (record n { under_way = Some way }) way history w least →
+    LeavesOnly moment left_since n.meta.disk new.meta.disk (LeavesRecoverable (record n { under_way = Some way }) new w least)) where
+  -- it goes on
+  pub way_goes : (next : UnderWay) → new.live ≡ true → new.store.control.grain ≡ n.store.control.grain → new.script ≡ n.script → new.under_way ≡ Some next →
+      ((history : HistoryState) (w : Whole) (least : List Row) → IsDoing seen may_leave (record n { under_way = Some way }) way history w least → IsDoing seen may_leave new next history w least) → (history : HistoryState) →
+      WayMade seen may_leave moment left_since done n way new history history
+  way_goes next live grain script under goes history =
+      record {
+        on = λ w least d. inl (record {
+          same = refl;
+          live = live;
+          grain = grain;
+          at = subst (λ (o : Option UnderWay). IsAtBy seen may_leave o new history w least) (sym under) (goes history w least d);
+          goes = let g : GrainSize = new.store.control.grain in subst (λ (s : Script). GoesOn g w (agenda_of g n.script) (agenda_of g s)) (sym script) (λ read. stays);
+        });
+        any_moment = leaves history;
+        stopped = tt;
+        full = λ f. absurd cc;
+        into = λ f. absurd cc;
+      }
+
+  -- or it stopped
+  pub way_stops : (result : Result (Unit {0}) NotedStop) (given stop : NotedStop) → result ≡ Err given → given ≡ stop → (stop ≡ LogFull → ⊥) →
+      ((history : HistoryState) (w : Whole) (least : List Row) → IsDoing seen may_leave (record n { under_way = Some way }) way history w least → HasStopped may_leave (record n { under_way = Some way }) new w least) →
+      ((history : HistoryState) (w : Whole) (least : List Row) → IsDoing seen may_leave (record n { under_way = Some way }) way history w least → stop ≡ MetaFailed → CountsInto seen (record n { under_way = Some way }) new history w) →
+      (history : HistoryState) → WayMade seen may_leave moment left_since result n way new history history
+  way_stops result given stop e same other stops into history =
+      subst (λ (z : Result (Unit {0}) NotedStop). WayMade seen may_leave moment left_since z n way new history history) (sym (e ∙ ap (λ (z : NotedStop). Err z) same))
+      (record {
+        on = tt;
+        any_moment = leaves history;
+        stopped = λ w least d. (refl, stops history w least d);
+        full = λ f. absurd (other (same_stop stop f));
+        into = λ f w least d. into history w least d (same_stop stop f);
+      })

@@ -11,25 +11,24 @@ ghost use Rattle.fc_noted.specs.Making.{KeepLanes, KeepsCount};
 ghost use Rattle.fc_noted.specs.Noted.{IsNotedAt};
 ghost use Rattle.fc_noted.specs.Stopping.{Halts, LineHalts};
 ghost use Rattle.fc_script.specs.Script.{agenda_of};
-ghost use Rattle.fc_store.specs.Answering.{IsStoreLine};
 
 use crate::noted::Noted;
 use fc_base::command::Line;
 use fc_base::fault::WordFault;
+use fc_base::outcome::NoMemory;
 use fc_entry::history::History;
 use fc_marks::NotedStop;
 use fc_mdisk::mdisk::Mdisk;
 use fc_metadisk::MetaDisk;
 
 impl<D: Mdisk, M: MetaDisk> Noted<D, M> {
-    /// Answers a line as `Store::run_line` does, step by step. Behind an error, only the disks are of use.
+    /// Answers a line step by step, and a preset by the lines that stand in its place. Behind an error, only the disks are of use.
     ///
     /// NoMemory also where 2^64 - 1 steps didn't answer it.
     pub fn run_line(&mut self, line: Line, history: &mut History) -> Result<(), NotedStop>
         requires at { (w : Whole) × (least : List Row) × IsNotedAt M.seen M.may_leave self.old history.old w least }
         requires live { self.old.live ≡ true }
         requires room { length history.old.entries ≤ 262144 }
-        requires own { IsStoreLine self.old.store.control.tables line }
         ensures answered { OnOk result ((read : Reading) (bytes : List ℕ) (w : Whole) (least : List Row) → read w.books bytes ≡ Ok line → IsNotedAt M.seen M.may_leave self.old history.old w least →
             (next : Whole) × (least_next : List Row) × IsNotedAt M.seen M.may_leave self.new history.new next least_next
             × Adds history.old history.new (λ more. GoesToEnd (session_rules self.old.store.control.grain read) (Session (single bytes ∷ [])) w more next)) }
@@ -42,8 +41,13 @@ impl<D: Mdisk, M: MetaDisk> Noted<D, M> {
         ensures stopped { OnErr result (self.new.live ≡ false) }
         ensures limit { length history.new.entries ≤ 262144 }
     {
-        self.begin_line(line);
-        self.make_all(history)
+        match self.begin_line(line) {
+            Ok(()) => self.make_all(history),
+            Err(NoMemory) => {
+                self.live = false;
+                Err(NotedStop::NoMemory)
+            }
+        }
     }
 
     /// Tells of a line that it has this fault in its words: one entry. Behind an error, only the disks are of use.

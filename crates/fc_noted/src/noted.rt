@@ -1,6 +1,6 @@
 //! The noted store: how it begins, which line it answers, and its end.
 
-ghost use Rattle.std.specs.Prelude.{◌≡◌, ◌≢◌, ◌<◌, ◌^◌, [], Err, IfErr, IfOk, List, Ok, length, map, replicate, true, vec_len};
+ghost use Rattle.std.specs.Prelude.{◌≡◌, ◌≢◌, ◌<◌, ◌^◌, [], Err, IfErr, IfOk, List, Ok, OnErr, OnOk, length, map, replicate, true, vec_len};
 ghost use Rattle.std.specs.List.{All};
 ghost use Rattle.fc_changed.specs.Row.{Row};
 ghost use Rattle.fc_entry.specs.HistoryState.{HistoryState};
@@ -20,7 +20,6 @@ ghost use Rattle.fc_noted.specs.Stopping.{LeavesFirst, opened_meta, over_meta};
 ghost use Rattle.fc_script.specs.Passage.{GoesOn};
 ghost use Rattle.fc_script.specs.Script.{agenda_of};
 ghost use Rattle.fc_stands.specs.Store.{StandsFor};
-ghost use Rattle.fc_store.specs.Answering.{IsStoreLine};
 
 use fc_base::command::Line;
 use fc_base::fault::WordFault;
@@ -145,16 +144,23 @@ impl<D: Mdisk, M: MetaDisk> Noted<D, M> {
         }
     }
 
-    /// Takes up a line, which `make_step` then answers. Nothing may be left of the line before.
-    pub fn begin_line(&mut self, line: Line)
+    /// Takes up a line, which `make_step` then answers. Nothing may be left of the line before. Refused, for want of memory alone,
+    /// nothing was done.
+    pub fn begin_line(&mut self, line: Line) -> Result<(), NoMemory>
         requires at { (history : HistoryState) × (w : Whole) × (least : List Row) × IsNotedAt M.seen M.may_leave self.old history w least }
-        requires own { IsStoreLine self.old.store.control.tables line }
-        ensures line { (w : Whole) → StandsFor self.old.store w →
-            GoesOn self.old.store.control.grain w (line_read self.old.store.control.grain w (Ok line) []) (agenda_of self.old.store.control.grain self.new.script) }
+        ensures line { OnOk result ((w : Whole) → StandsFor self.old.store w →
+            GoesOn self.old.store.control.grain w (line_read self.old.store.control.grain w (Ok line) []) (agenda_of self.old.store.control.grain self.new.script)) }
+        ensures refused { OnErr result (self.new ≡ self.old) }
         ensures at { (history : HistoryState) (w : Whole) (least : List Row) → IsNotedAt M.seen M.may_leave self.old history w least → IsNotedAt M.seen M.may_leave self.new history w least }
         ensures others { self.new ≡ record self.old { script = self.new.script } }
     {
-        self.script = Script::of_line(&self.store, line);
+        match Script::of_line(&self.store, line) {
+            Ok(script) => {
+                self.script = script;
+                Ok(())
+            }
+            Err(NoMemory) => Err(NoMemory),
+        }
     }
 
     /// Takes up a line with this fault in its words, which `make_step` then tells. Nothing may be left of the line before.

@@ -1,8 +1,8 @@
 -- One line more: the noted store goes on to answer lines, or leaves what is told of the first entries; and the history only grows.
 use Rattle.std.proofs.Common.{◌≡◌, ℕ, ◌≤◌, List, [], ◌∷◌, ◌++◌, length, map, sym, ◌∙◌, subst, Option, None, Result, Ok, Err, OnOk, IfErr, true}
 use Rattle.std.proofs.lemmas.List.{map-append}
-use Rattle.fc_agenda.proofs.Going.{GoesSome-asking, GoesSome-whole}
-use Rattle.fc_agenda.specs.Goes.{GoesAsking, GoesSome, GoesToEnd}
+use Rattle.fc_agenda.proofs.Going.{Goes-append, GoesSome-asking, GoesSome-whole}
+use Rattle.fc_agenda.specs.Goes.{Goes, GoesAsking, GoesSome, GoesToEnd}
 use Rattle.fc_base.specs.declared.command.Line.{Line}
 use Rattle.fc_base.specs.declared.fault.WordFault.{WordFault}
 use Rattle.fc_base.specs.declared.size.GrainSize.{GrainSize}
@@ -11,11 +11,11 @@ use Rattle.fc_changed.specs.Row.{Row}
 use Rattle.fc_entry.specs.HistoryState.{HistoryState}
 use Rattle.fc_entry.specs.Text.{HasNames}
 use Rattle.fc_entry.specs.declared.entry.Entry.{Entry}
-use Rattle.fc_legal.proofs.Appending.{IsLegal-run, IsPartialRun-append, IsPartialRun-more, IsRun-append, WantsMore-append}
+use Rattle.fc_legal.proofs.Appending.{Goes-more_segments, IsLegal-run, IsRun-append, WantsMore-append, with_segments}
 use Rattle.fc_legal.proofs.Naming.{HasMore}
 use Rattle.fc_legal.specs.Added.{Adds, IsOf}
-use Rattle.fc_legal.specs.Agenda.{Reading, Session, session_rules}
-use Rattle.fc_legal.specs.Run.{IsPartialRun, IsRun, WantsMore}
+use Rattle.fc_legal.specs.Agenda.{Agenda, Reading, Session, session_rules}
+use Rattle.fc_legal.specs.Run.{IsRun, WantsMore}
 use Rattle.fc_legal.specs.Whole.{Whole}
 use Rattle.fc_marks.specs.declared.error.NotedStop.{NotedStop}
 use Rattle.fc_marks.specs.declared.error.NotedStop.TheVariants.{LogFull, MetaFailed, MetaFull, NoMemory}
@@ -30,11 +30,28 @@ use Rattle.fc_owner.specs.StoreRuns.{Start}
 use Rattle.fc_run.specs.Runs.{GrowsTo, LineLeaves}
 use Rattle.fc_stopped.proofs.Lanes.{lanes_kept}
 use Rattle.fc_stopped.proofs.Left.{answered_left}
-use Rattle.fc_stopped.specs.Lines.{HasAnswered, HasLeft, LineIsAnswered, RunsSome, RunsAsking, noted_runs, stop_told}
+use Rattle.fc_stopped.specs.Lines.{HasAnswered, HasLeft, LineIsAnswered, RunsAsking, RunsUpTo, noted_runs, stop_told}
 use Rattle.fc_stopped.specs.Reading.{stop_reading}
 
 more_lines : (lines : List (List ℕ)) (line : List ℕ) → map single lines ++ single line ∷ [] ≡ map single (lines ++ line ∷ [])
 more_lines lines line = sym (map-append single lines (line ∷ []))
+
+-- Behind a run more segments are left to be asked; and what is answered of them leaves what it leaves.
+run_then : (grain : GrainSize) (w mid : Whole) (segs more : List Segment) (xs : List Entry) → IsRun grain stop_reading w segs xs mid → Goes (session_rules grain stop_reading) (Session (segs ++ more)) w xs (Session more) mid
+run_then grain w mid segs more xs run =
+    let P : Agenda → Type 0 = λ b. Goes (session_rules grain stop_reading) (Session (segs ++ more)) w xs (with_segments more b) mid in
+    subst P run.over (Goes-more_segments grain stop_reading more (Session segs) run.end w mid xs run.goes)
+
+run_up_to : (grain : GrainSize) (w mid last : Whole) (segs more : List Segment) (xs ys : List Entry) (left : Agenda) → IsRun grain stop_reading w segs xs mid →
+    Goes (session_rules grain stop_reading) (Session more) mid ys left last → Goes (session_rules grain stop_reading) (Session (segs ++ more)) w (xs ++ ys) left last
+run_up_to grain w mid last segs more xs ys left run on =
+    Goes-append (session_rules grain stop_reading) (Session (segs ++ more)) (Session more) left w mid last xs ys (run_then grain w mid segs more xs run) on
+
+-- The first of a line, whatever is left of it.
+in_part : (grain : GrainSize) (line : List ℕ) (told next : Whole) (left : Agenda) (old new : HistoryState) →
+    Adds old new (λ more. Goes (session_rules grain stop_reading) (Session (single line ∷ [])) told more left next) →
+    Adds old new (λ more. GoesSome (session_rules grain stop_reading) (Session (single line ∷ [])) told more next)
+in_part grain line told next left old new adds = record { more = adds.more; entries = adds.entries; are = record { end = left; goes = adds.are } }
 
 module _ {C D : Type 0} (seen : D → List ℕ) (may_leave : D → List ℕ → Type 0) where
   -- A line that was read is answered, or its fault is.
@@ -75,55 +92,57 @@ module _ {C D : Type 0} (seen : D → List ℕ) (may_leave : D → List ℕ → 
               (subst (λ (segs : List Segment). IsRun start.grain stop_reading w segs (old.entries ++ adds.more) next) (more_lines lines line) all);
         }
 
-    left_asking : (next : Whole) → IsOf next new → Leaves n.store.control.grain may_leave now next →
+    left_asking : (next : Whole) (left : Agenda) → IsOf next new → Leaves n.store.control.grain may_leave now next left →
         Adds old new (λ more. GoesAsking (session_rules n.store.control.grain stop_reading) (Session (single line ∷ [])) a.last more next) →
-        HasLeft seen may_leave now start new (RunsAsking start (lines ++ line ∷ []) new)
-    left_asking next told leaves adds =
+        HasLeft seen may_leave now start new (λ agenda last. RunsAsking start (lines ++ line ∷ []) new last)
+    left_asking next left told leaves adds =
         let are : WantsMore start.grain stop_reading a.last (single line ∷ []) adds.more next =
         subst (λ (g : GrainSize). GoesAsking (session_rules g stop_reading) (Session (single line ∷ [])) a.last adds.more next) a.grain adds.are in
         let all = WantsMore-append start.grain stop_reading w a.last next (map single lines) (single line ∷ []) old.entries adds.more a.run are in
         record {
           lanes = lanes_kept start n.store now.store keep a.lanes;
           last = next;
+          left = left;
           told = told;
-          leaves = subst (λ (g : GrainSize). Leaves g may_leave now next) a.grain leaves;
+          leaves = subst (λ (g : GrainSize). Leaves g may_leave now next left) a.grain leaves;
           holds = subst (λ (es : List Entry). WantsMore start.grain stop_reading w (map single (lines ++ line ∷ [])) es next) (sym adds.entries)
               (subst (λ (segs : List Segment). WantsMore start.grain stop_reading w segs (old.entries ++ adds.more) next) (more_lines lines line) all);
         }
 
-    left_some : (next : Whole) → IsOf next new → Leaves n.store.control.grain may_leave now next →
-        Adds old new (λ more. GoesSome (session_rules n.store.control.grain stop_reading) (Session (single line ∷ [])) a.last more next) →
-        HasLeft seen may_leave now start new (RunsSome start (lines ++ line ∷ []) new)
-    left_some next told leaves adds =
-        let are : IsPartialRun start.grain stop_reading a.last (single line ∷ []) adds.more next =
-        subst (λ (g : GrainSize). GoesSome (session_rules g stop_reading) (Session (single line ∷ [])) a.last adds.more next) a.grain adds.are in
-        let all = IsPartialRun-append start.grain stop_reading w a.last next (map single lines) (single line ∷ []) old.entries adds.more a.run are in
+    left_some : (next : Whole) (left : Agenda) → IsOf next new → Leaves n.store.control.grain may_leave now next left →
+        Adds old new (λ more. Goes (session_rules n.store.control.grain stop_reading) (Session (single line ∷ [])) a.last more left next) →
+        HasLeft seen may_leave now start new (RunsUpTo start (lines ++ line ∷ []) new)
+    left_some next left told leaves adds =
+        let are : Goes (session_rules start.grain stop_reading) (Session (single line ∷ [])) a.last adds.more left next =
+        subst (λ (g : GrainSize). Goes (session_rules g stop_reading) (Session (single line ∷ [])) a.last adds.more left next) a.grain adds.are in
+        let all = run_up_to start.grain w a.last next (map single lines) (single line ∷ []) old.entries adds.more left a.run are in
         record {
           lanes = lanes_kept start n.store now.store keep a.lanes;
           last = next;
+          left = left;
           told = told;
-          leaves = subst (λ (g : GrainSize). Leaves g may_leave now next) a.grain leaves;
-          holds = subst (λ (es : List Entry). IsPartialRun start.grain stop_reading w (map single (lines ++ line ∷ [])) es next) (sym adds.entries)
-              (subst (λ (segs : List Segment). IsPartialRun start.grain stop_reading w segs (old.entries ++ adds.more) next) (more_lines lines line) all);
+          leaves = subst (λ (g : GrainSize). Leaves g may_leave now next left) a.grain leaves;
+          holds = subst (λ (es : List Entry). Goes (session_rules start.grain stop_reading) (Session (map single (lines ++ line ∷ []))) w es left next) (sym adds.entries)
+              (subst (λ (segs : List Segment). Goes (session_rules start.grain stop_reading) (Session segs) w (old.entries ++ adds.more) left next) (more_lines lines line) all);
         }
 
     -- A line that isn't answered to its end leaves the first of it.
     pub line_halted : (halt : NotedStop) (also : Option NotedStop) → LineHalts may_leave stop_reading halt n now line a.last old new →
         LineLeaves {A = Unit {0}} (Err (stop_told halt)) (noted_runs seen may_leave now also start) (lines ++ line ∷ []) new
-    line_halted LogFull also h = (left_asking h.1.0 h.1.1 h.1.2 h.1.3, h.0)
-    line_halted NoMemory also h = left_some h.0 h.1 h.2 h.3
-    line_halted MetaFailed also h = left_some h.0 h.1 h.2 h.3
-    line_halted MetaFull also h = left_some h.0 h.1 h.2 h.3
+    line_halted LogFull also h = (left_asking h.1.0 h.1.2.0 h.1.1 h.1.2.1 h.1.3, h.0)
+    line_halted NoMemory also h = left_some h.0 h.1 h.2 h.3 h.4
+    line_halted MetaFailed also h = left_some h.0 h.1 h.2 h.3 h.4
+    line_halted MetaFull also h = left_some h.0 h.1 h.2 h.3 h.4
 
-  -- Memory was wanted to read the line: nothing of it is answered.
+  -- Memory was wanted to read the line: nothing of it is answered, and it is left to be asked.
   pub line_starved : (start : Start) (n : Noted C D) (stop : Option NotedStop) (lines : List (List ℕ)) (line : List ℕ) (history : HistoryState) → HasAnswered seen may_leave n stop start lines history →
-      length history.entries ≤ 262144 → HasLeft seen may_leave n start history (RunsSome start (lines ++ line ∷ []) history)
+      length history.entries ≤ 262144 → HasLeft seen may_leave n start history (RunsUpTo start (lines ++ line ∷ []) history)
   line_starved start n stop lines line history a room =
       let w : Whole = first_told start.disks in
-      let some = IsPartialRun-more start.grain stop_reading w a.last (map single lines) (single line ∷ []) history.entries
-      (GoesSome-whole (session_rules start.grain stop_reading) (Session (map single lines)) w a.last history.entries a.run) in
-      answered_left seen may_leave n stop start lines history a room (RunsSome start (lines ++ line ∷ []) history)
-      (subst (λ (segs : List Segment). IsPartialRun start.grain stop_reading w segs history.entries a.last) (more_lines lines line) some)
+      let left : Agenda = Session (single line ∷ []) in
+      let up_to = run_then start.grain w a.last (map single lines) (single line ∷ []) history.entries a.run in
+      answered_left seen may_leave n stop start lines history a room left (RunsUpTo start (lines ++ line ∷ []) history)
+      (subst (λ (segs : List Segment). Goes (session_rules start.grain stop_reading) (Session segs) w history.entries (Session (single line ∷ [])) a.last) (more_lines lines line) up_to)
 
   -- ---- the history only grows, and each entry's actor has a name
 
@@ -149,9 +168,9 @@ module _ {C D : Type 0} (seen : D → List ℕ) (may_leave : D → List ℕ → 
           are = GoesSome-asking (session_rules n.store.control.grain stop_reading) (Session (single line ∷ [])) w h.1.0 h.1.3.more h.1.3.are;
         };
       }
-  some_added (Err NoMemory) n now line w old new h = record { last = h.0; told = h.1; adds = h.3 }
-  some_added (Err MetaFailed) n now line w old new h = record { last = h.0; told = h.1; adds = h.3 }
-  some_added (Err MetaFull) n now line w old new h = record { last = h.0; told = h.1; adds = h.3 }
+  some_added (Err NoMemory) n now line w old new h = record { last = h.0; told = h.2; adds = in_part n.store.control.grain line w h.0 h.1 old new h.4 }
+  some_added (Err MetaFailed) n now line w old new h = record { last = h.0; told = h.2; adds = in_part n.store.control.grain line w h.0 h.1 old new h.4 }
+  some_added (Err MetaFull) n now line w old new h = record { last = h.0; told = h.2; adds = in_part n.store.control.grain line w h.0 h.1 old new h.4 }
 
   pub line_grows : (start : Start) (n : Noted C D) (stop : Option NotedStop) (lines : List (List ℕ)) (line : List ℕ) (old new : HistoryState) (a : HasAnswered seen may_leave n stop start lines old) →
       AddsSome n.store.control.grain stop_reading (Session (single line ∷ [])) a.last old new → GrowsTo old new

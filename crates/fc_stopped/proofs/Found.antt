@@ -1,11 +1,10 @@
 -- What is found after a stop: it may be read, and its text is that of what may be recovered.
-use Rattle.std.proofs.Common.{◌≡◌, ◌⊎◌, ℕ, ◌%◌, ◌==◌, Bool, true, false, List, [], inl, inr, length, replicate, refl, sym, ap, subst, ◌∙◌, None, if◌then◌else◌}
-use Rattle.std.proofs.lemmas.List.{append-nil, length-replicate}
-use Rattle.fc_base.specs.Pools.{Pool}
+use Rattle.std.proofs.Common.{◌≡◌, ◌⊎◌, ℕ, ◌%◌, ◌==◌, Bool, true, false, List, [], inl, inr, length, refl, sym, ap, subst, ◌∙◌, None, if◌then◌else◌}
+use Rattle.std.proofs.lemmas.List.{append-nil}
 use Rattle.fc_base.specs.declared.limits.TheConstants.{LANES}
 use Rattle.fc_base.specs.declared.size.GrainSize.TheVariants.{K64}
 use Rattle.fc_base.specs.declared.volume.Volume.{Volume}
-use Rattle.fc_entry.specs.HistoryState.{HistoryState}
+use Rattle.fc_call.specs.Call.{Call}
 use Rattle.fc_format.specs.Halves.{Found, Image, NoImage, recovered}
 use Rattle.fc_held.specs.Held.{HoldAllOf}
 use Rattle.fc_image.specs.declared.image.MetaImage.{MetaImage}
@@ -15,12 +14,14 @@ use Rattle.fc_kept.specs.Kept.{Kept}
 use Rattle.fc_kept.specs.Recoverable.{Recoverable, disks_at}
 use Rattle.fc_kept.specs.Sound.{IsSoundImage}
 use Rattle.fc_lanes.specs.Dealing.{pools_dealt}
+use Rattle.fc_legal.specs.Agenda.{Agenda}
 use Rattle.fc_legal.specs.Whole.{Whole}
 use Rattle.fc_marks.specs.declared.error.NotedStop.{NotedStop}
 use Rattle.fc_marks.specs.declared.error.NotedStop.TheVariants.{LogFull}
 use Rattle.fc_mdisk.specs.Disk.{DiskState}
 use Rattle.fc_metadisk.specs.Stop.{StopLeaves, StopState, found_after}
-use Rattle.fc_noted.specs.Stopping.{Leaves, LeavesFirst}
+use Rattle.fc_noted.proofs.Safe.{as_it_was}
+use Rattle.fc_noted.specs.Stopping.{Leaves, LeavesFirst, MoreFailed}
 use Rattle.fc_noted.specs.declared.noted.Noted.{Noted}
 use Rattle.fc_owner.specs.FirstTold.{first_told}
 use Rattle.fc_recovered.specs.Readying.{readied}
@@ -30,10 +31,13 @@ use Rattle.fc_recovery_text.specs.Recovering.{AreRead, AreRead.all, IsFirstText,
 use Rattle.fc_recovery_text.specs.Text.{lines_text, rows_in}
 use Rattle.law_crash.proofs.Whole.{crash_law_holds}
 use Rattle.law_crash.specs.Points.{Point, nothing_kept}
+use Rattle.law_noted.proofs.OldOrNew.{safe_by}
+use Rattle.law_noted.specs.One.{IsSafe}
+use Rattle.fc_stopped.proofs.Counted.{disks_failed_more}
 use Rattle.fc_stopped.proofs.Lanes.{can_recover}
-use Rattle.fc_stopped.specs.Ending.{IsUnopened, over_disks}
+use Rattle.fc_stopped.specs.Ending.{IsUnopened, all_disks, over_disks}
 use Rattle.fc_stopped.specs.Lines.{HasLanes}
-use Rattle.fc_stopped.specs.Stopped.{IsState}
+use Rattle.fc_stopped.specs.Stopped.{DisksFailedMore, IsState}
 
 -- ---- the disk of metadata
 
@@ -52,7 +56,7 @@ same_image f image other is also =
 
 -- ---- what may be recovered
 
-module _ {C : Type 0} (n : Noted C StopState) (last : Whole) (old : List DiskState) (leaves : Leaves K64 StopLeaves n last) where
+module _ {C : Type 0} (n : Noted C StopState) (last : Whole) (left : Agenda) (old : List DiskState) (leaves : Leaves K64 StopLeaves n last left) where
   pub found_good : IsFoundGood (recovered (found_after n.meta.disk))
   found_good =
       let l = leaves.found (found_after n.meta.disk) (found_leaves n.meta.disk) in
@@ -64,14 +68,16 @@ module _ {C : Type 0} (n : Noted C StopState) (last : Whole) (old : List DiskSta
       let l = leaves.found (found_after n.meta.disk) (found_leaves n.meta.disk) in
       let r = l.3 back hold in
       subst (λ (i : MetaImage). CanRecover K64 i back) (same_image (recovered (found_after n.meta.disk)) l.0 image l.1 is)
-      (can_recover (over_disks old) n.named n.store.lanes l.0 back last r.0 r.1 r.2 has hold l.2 r.3)
+      (can_recover (over_disks old) n.named n.store.lanes l.0 back last r.0 r.1 r.3.one has hold l.2 r.3.recoverable)
 
-  pub found_state : (history : HistoryState) (back behind : List (List NamedDisk)) (text : List ℕ) → HoldAllOf n.named n.store.lanes back →
-      IsStateText K64 (recovered (found_after n.meta.disk)) back text behind → IsState last history text
-  found_state history back behind text hold is =
+  pub found_state : (call : Call) (back behind : List (List NamedDisk)) (text : List ℕ) → HoldAllOf n.named n.store.lanes back →
+      IsStateText K64 (recovered (found_after n.meta.disk)) back text behind → call.disks' ≡ all_disks behind → IsState call last left text
+  found_state call back behind text hold is came =
       let l = leaves.found (found_after n.meta.disk) (found_leaves n.meta.disk) in
       let r = l.3 back hold in
-      IsState.first l.0 back text behind r.0 r.1 r.2 r.3 (subst (λ (f : Found). IsStateText K64 f back text behind) l.1 is)
+      let safe : IsSafe K64 back (kept_in l.0) last r.0 r.1 (DisksFailedMore last (all_disks back)) =
+      safe_by K64 back (kept_in l.0) last r.0 r.1 (MoreFailed last n.store.lanes) (DisksFailedMore last (all_disks back)) (disks_failed_more n.named n.store.lanes back last hold leaves.counted) r.3 in
+      IsState.first l.0 back text behind r.0 r.1 r.2 safe (subst (λ (f : Found). IsStateText K64 f back text behind) l.1 is) came
 
 -- ---- before the first image stands
 
@@ -101,13 +107,6 @@ unopened_bare bytes stop un image is = bare un.found
         absurd (cc same)
     bare (inr some) = subst (λ (i : MetaImage). IsSoundImage i × (i.volumes ≡ [])) (same_image (recovered bytes) some.0 image some.1 is) (some.2, some.3)
 
--- no disks at all, lane by lane
-abbrev none_in : List NamedDisk
-none_in = []
-
-abbrev no_disks : List Pool → List (List NamedDisk)
-no_disks pools = replicate (length pools) none_in
-
 nothing_read : (image : MetaImage) (disks : List (List NamedDisk)) (text : List ℕ) → image.volumes ≡ [] → text ≡ lines_text (rows_in K64 image) → IsImageText K64 image disks text disks
 nothing_read image disks text none is =
     record {
@@ -121,19 +120,25 @@ nothing_read image disks text none is =
       text_is = is ∙ sym (append-nil (lines_text (rows_in K64 image)));
     }
 
--- The text of no image, or of one that says nothing.
-pub first_state : (disks : List DiskState) (history : HistoryState) (bytes text : List ℕ) → history.entries ≡ [] → LeavesFirst bytes → IsFirstText K64 (recovered bytes) text → IsState (first_told disks) history text
-first_state disks history bytes text no_entry leaves first = state leaves
-  where
-    state : LeavesFirst bytes → IsState (first_told disks) history text
-    state (inl none) =
-        let is = subst (λ (f : Found). IsFirstText K64 f text) none first in
-        subst (λ (t : List ℕ). IsState (first_told disks) history t) (sym is) (IsState.none no_entry)
-    state (inr some) =
-        let lanes : List (List NamedDisk) = no_disks (pools_dealt LANES disks) in
-        let point : Point = record { kept = nothing_kept; disks = lanes } in
-        let here : Recoverable K64 lanes nothing_kept (first_told disks) [] None None =
-        crash_law_holds.rests K64 (first_told disks) [] None point (crash_law_holds.opens K64 (pools_dealt LANES disks) lanes (length-replicate (length (pools_dealt LANES disks)) none_in)) in
-        let is = subst (λ (f : Found). IsFirstText K64 f text) some.1 first in
-        IsState.first some.0 lanes text lanes [] None None (subst (λ (k : Kept). Recoverable K64 lanes k (first_told disks) [] None None) (sym some.3) here)
-        (nothing_read some.0 lanes text (without_volumes some.0 some.3) is)
+-- The text of no image, or of one that says nothing: no disk was read.
+module _ (call : Call) (left : Agenda) (bytes text : List ℕ) (lanes : List (List NamedDisk)) (many : length lanes ≡ length (pools_dealt LANES call.disks)) (came : call.disks' ≡ all_disks lanes) where
+  abbrev told : Whole
+  told = first_told call.disks
+
+  pub first_state : call.history.entries ≡ [] → LeavesFirst bytes → IsFirstText K64 (recovered bytes) text → IsState call told left text
+  first_state no_entry leaves first = state leaves
+    where
+      state : LeavesFirst bytes → IsState call told left text
+      state (inl none) =
+          let is = subst (λ (f : Found). IsFirstText K64 f text) none first in
+          subst (λ (t : List ℕ). IsState call told left t) (sym is) (IsState.none no_entry)
+      state (inr some) =
+          let point : Point = record { kept = nothing_kept; disks = lanes } in
+          let here : Recoverable K64 lanes nothing_kept told [] None None =
+          crash_law_holds.rests K64 told [] None point (crash_law_holds.opens K64 (pools_dealt LANES call.disks) lanes many) in
+          let is = subst (λ (f : Found). IsFirstText K64 f text) some.1 first in
+          let safe : IsSafe K64 lanes nothing_kept told [] None (DisksFailedMore told (all_disks lanes)) =
+          as_it_was K64 lanes nothing_kept told [] None (DisksFailedMore told (all_disks lanes)) here in
+          IsState.first some.0 lanes text lanes [] None tt
+          (subst (λ (k : Kept). IsSafe K64 lanes k told [] None (DisksFailedMore told (all_disks lanes))) (sym some.3) safe)
+          (nothing_read some.0 lanes text (without_volumes some.0 some.3) is) came

@@ -29,7 +29,7 @@ use Rattle.fc_owner.specs.StoreRuns.{Start}
 use Rattle.fc_recovered.proofs.Making.{says_can}
 use Rattle.fc_recovered.specs.Readying.{HasWholeGrains}
 use Rattle.fc_recovered.specs.Recovered.{CanRecover}
-use Rattle.fc_recovery_text.specs.Recovering.{KeepKinds}
+use Rattle.fc_recovery_text.specs.Recovering.{KeepDisks}
 use Rattle.fc_stands.proofs.NewStore.{kinds_made}
 use Rattle.fc_stands.specs.Store.{StandsFor, StoreView}
 use Rattle.fc_store.specs.Stepping.{no_lane}
@@ -97,12 +97,12 @@ kinds_back (v ∷ vs) (own ∷ rest) count each =
     }
 
 -- As many of each kind come back, also where some were read meanwhile.
-pub disks_back : (start : Start) (named : ℕ) (lanes : List LaneView) (ds last : List (List NamedDisk)) → HasLanes start lanes → HoldAllOf named lanes ds → KeepKinds ds last →
+pub disks_back : (start : Start) (named : ℕ) (lanes : List LaneView) (ds last : List (List NamedDisk)) → HasLanes start lanes → HoldAllOf named lanes ds → KeepDisks ds last →
     pool_of (all_disks last) ≡ pool_of start.disks
 disks_back start named lanes ds last has hold keep =
-    kinds_back lanes last (keep.count ∙ hold.count) (λ i d il. keep.each i ∙ (hold.each i d il).kinds) ∙ has.disks
+    kinds_back lanes last (keep.count ∙ hold.count) (λ i d il. keep.kinds i ∙ (hold.each i d il).kinds) ∙ has.disks
 
-pub count_back : (start : Start) (named : ℕ) (lanes : List LaneView) (ds last : List (List NamedDisk)) → HasLanes start lanes → HoldAllOf named lanes ds → KeepKinds ds last →
+pub count_back : (start : Start) (named : ℕ) (lanes : List LaneView) (ds last : List (List NamedDisk)) → HasLanes start lanes → HoldAllOf named lanes ds → KeepDisks ds last →
     length (all_disks last) ≡ length start.disks
 count_back start named lanes ds last has hold keep =
     sym (total-pool (all_disks last)) ∙ ap total_of (disks_back start named lanes ds last has hold keep) ∙ total-pool start.disks

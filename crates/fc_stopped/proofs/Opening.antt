@@ -1,6 +1,7 @@
 -- A call before its first line: the noted store that it opens, or the first image that isn't written.
 use Rattle.std.proofs.Common.{◌≡◌, ℕ, ◌<◌, ◌^◌, true, List, [], ◌++◌, All, inl, inr, length, replicate, refl, sym, ap, subst, ◌∙◌, arith, None}
-use Rattle.std.proofs.lemmas.List.{length-replicate}
+use Rattle.std.proofs.lemmas.List.{length-map, length-replicate}
+use Rattle.std.proofs.lemmas.List.FromFn.{length-map-range_with_len}
 use Rattle.fc_base.specs.declared.limits.TheConstants.{LANES}
 use Rattle.fc_base.specs.declared.size.GrainSize.{GrainSize}
 use Rattle.fc_base.specs.declared.size.GrainSize.TheVariants.{K64}
@@ -9,8 +10,10 @@ use Rattle.fc_entry.specs.HistoryState.{HistoryState}
 use Rattle.fc_entry.specs.Text.{history_text}
 use Rattle.fc_format.specs.Halves.{recovered}
 use Rattle.fc_grains.specs.Grains.{pool_of}
-use Rattle.fc_lanes.specs.Dealing.{Begin, all_dealt}
+use Rattle.fc_lane.specs.Lane.{LaneView}
+use Rattle.fc_lanes.specs.Dealing.{AreAllIn, AreByLane, Begin, all_dealt, dealt, pools_dealt}
 use Rattle.fc_legal.proofs.Appending.{IsRun-nil}
+use Rattle.fc_legal.specs.Agenda.{Session}
 use Rattle.fc_legal.specs.Run.{IsRun}
 use Rattle.fc_legal.specs.Whole.{opened}
 use Rattle.fc_marks.specs.declared.error.NotedStop.{NotedStop}
@@ -18,19 +21,22 @@ use Rattle.fc_marks.specs.declared.error.NotedStop.TheVariants.{LogFull, MetaFai
 use Rattle.fc_mdisk.specs.Disk.{DiskState, IsFresh}
 use Rattle.fc_metadisk.specs.Disk.{Only}
 use Rattle.fc_metadisk.specs.Stop.{StopLeaves, StopState, new_stop}
+use Rattle.fc_noted.proofs.Counting.{has_counted}
 use Rattle.fc_noted.specs.Noted.{BeginsOver, IsNotedAt, NoHistory}
-use Rattle.fc_noted.specs.Stopping.{LeavesFirst}
+use Rattle.fc_noted.specs.Stopping.{AreCounted, LeavesFirst}
 use Rattle.fc_noted.specs.declared.noted.Noted.{Noted}
 use Rattle.fc_owner.proofs.SessionOver.{gave_nothing}
 use Rattle.fc_owner.specs.FirstTold.{first_told}
 use Rattle.fc_recovery_text.specs.Recovering.{IsFirstText}
 use Rattle.fc_stands.specs.Store.{StandsFor, StoreView}
-use Rattle.fc_stopped.proofs.Ends.{all_back, far_ends}
+use Rattle.fc_stopped.proofs.Apart.{LieApart, lie_apart}
+use Rattle.fc_stopped.proofs.Counted.{all_back, given_back}
+use Rattle.fc_stopped.proofs.Ends.{far_ends}
 use Rattle.fc_stopped.proofs.Found.{first_state}
 use Rattle.fc_stopped.proofs.Lanes.{lanes_begin}
 use Rattle.fc_stopped.proofs.Putting.{put_as}
 use Rattle.fc_stopped.proofs.Sessions.{CameFar}
-use Rattle.fc_stopped.proofs.Starved.{main_told, no_entries, no_lines, starved_named}
+use Rattle.fc_stopped.proofs.Starved.{main_told, no_entries, no_lines, none_answered, starved_named}
 use Rattle.fc_stopped.specs.Ending.{EndsUnopened, IsOpened, StatePut, over_disks}
 use Rattle.fc_stopped.specs.Lines.{HasAnswered, HasLanes}
 use Rattle.fc_stopped.specs.Reading.{stop_reading}
@@ -57,6 +63,9 @@ begins_over count disks taken s same counted few fresh stands grain begin =
 pub begin_lanes : (count : ℕ) (disks : List DiskState) (s : StoreView) → s.control.grain ≡ K64 → BeginsOver count disks s → HasLanes (over_disks disks) s.lanes
 begin_lanes count disks s grain begins =
     subst (λ (g : GrainSize). HasLanes (record { grain = g; disks = disks }) s.lanes) grain (lanes_begin disks s begins.stands begins.begin)
+
+pub begin_counted : (count : ℕ) (disks : List DiskState) (s : StoreView) → BeginsOver count disks s → AreCounted (first_told disks) s.lanes
+begin_counted count disks s begins = has_counted s (first_told disks) begins.stands (omega arith)
 
 pub is_opened : {C : Type 0} (count : ℕ) (disks : List DiskState) (s : StoreView) (n : Noted C StopState) → s.control.grain ≡ K64 → BeginsOver count disks s → n.store ≡ s → n.live ≡ true →
     IsNotedAt (λ (d : StopState). d.bytes) StopLeaves n NoHistory (first_told disks) [] → IsOpened n disks
@@ -99,33 +108,34 @@ opened_answers n old history main opened =
 
 -- ---- the first image isn't written
 
-unopened_put : (number : ℕ) (far : Far) (call : Call) (bytes : List ℕ) → call.history ≡ NoHistory → call.source' ≡ call.source → LeavesFirst bytes → CameFar number far call [] (first_told call.disks) →
-    StatePut (far_text far) (IsFirstText K64 (recovered bytes)) call.status call.sink call.sink' → pool_of call.disks' ≡ pool_of call.disks → StopEnds number call
-unopened_put number far call bytes main source leaves came put back =
-    let w = first_told call.disks in
-    let none : call.history.entries ≡ [] = ap (λ (h : HistoryState). h.entries) main in
-    let known : far_text far ≡ history_text call.history ++ far_text far = ap (λ (h : HistoryState). history_text h ++ far_text far) (sym main) in
-    let state : StatePut (far_text far) (IsState w call.history) call.status call.sink call.sink' =
-    put_as (far_text far) (IsFirstText K64 (recovered bytes)) (IsState (first_told call.disks) call.history) call.status call.sink call.sink'
-    (λ text is. first_state call.disks call.history bytes text none leaves is) put in
-    record {
-      last = w;
-      legal = no_entries call none;
-      named = inl (main_told call.disks call.history main);
-      bytes = [];
-      gave = gave_nothing call.source call.source' source;
-      ends = far_ends number far call.status call [] w came record { few = omega arith; taken = no_lines call none }
-          (subst (λ (t : List ℕ). StatePut t (IsState (first_told call.disks) call.history) call.status call.sink call.sink') known state);
-      disks = all_back call.status call.disks call.disks' back;
-    }
+module _ (number : ℕ) (call : Call) (bytes : List ℕ) (lanes : List LaneView) (main : call.history ≡ NoHistory) (source : call.source' ≡ call.source) (leaves : LeavesFirst bytes)
+    (has : HasLanes (over_disks call.disks) lanes) (counted : AreCounted (first_told call.disks) lanes) (all : AreAllIn lanes call.disks') (by : AreByLane lanes call.disks') where
+  none : call.history.entries ≡ []
+  none = ap (λ (h : HistoryState). h.entries) main
 
-pub unopened_ends : (number : ℕ) (stop : NotedStop) (call : Call) (bytes : List ℕ) → call.history ≡ NoHistory → call.source' ≡ call.source → LeavesFirst bytes →
-    EndsUnopened number (recovered bytes) stop call.status call.sink call.sink' → pool_of call.disks' ≡ pool_of call.disks → StopEnds number call
-unopened_ends number LogFull call bytes main source leaves ends back = absurd ends
-unopened_ends number NoMemory call bytes main source leaves ends back = starved_named number call ends.0 source ends.1 main
-unopened_ends number MetaFailed call bytes main source leaves ends back =
-    unopened_put number (ToCall number) call bytes main source leaves
-    record { few = omega arith; asked = refl; lines = no_lines call (ap (λ (h : HistoryState). h.entries) main) } ends back
-unopened_ends number MetaFull call bytes main source leaves ends back =
-    unopened_put number ToFull call bytes main source leaves
-    record { few = omega arith; asked = tt; lines = no_lines call (ap (λ (h : HistoryState). h.entries) main) } ends back
+  unopened_put : (far : Far) → CameFar number far call [] (Session []) (first_told call.disks) → StatePut (far_text far) (IsFirstText K64 (recovered bytes)) call.status call.sink call.sink' → StopEnds number call
+  unopened_put far came put =
+      let w = first_told call.disks in
+      let apart : LieApart lanes call.disks' = lie_apart lanes call.disks' by in
+      let many : length apart.back ≡ length (pools_dealt LANES call.disks) =
+      apart.count ∙ has.count ∙ sym (length-map (all_dealt LANES call.disks) pool_of ∙ length-map-range_with_len (dealt LANES call.disks) 0 LANES) in
+      let known : far_text far ≡ history_text call.history ++ far_text far = ap (λ (h : HistoryState). history_text h ++ far_text far) (sym main) in
+      let state : StatePut (far_text far) (IsState call w (Session [])) call.status call.sink call.sink' =
+      put_as (far_text far) (IsFirstText K64 (recovered bytes)) (IsState call (first_told call.disks) (Session [])) call.status call.sink call.sink'
+      (λ text is. first_state call (Session []) bytes text apart.back many (sym apart.are) none leaves is) put in
+      record {
+        last = w;
+        legal = no_entries call none;
+        named = inl (main_told call.disks call.history main);
+        bytes = [];
+        gave = gave_nothing call.source call.source' source;
+        ends = far_ends number far call [] (Session []) w came record { few = omega arith; taken = none_answered call none } call.status
+            (subst (λ (t : List ℕ). StatePut t (IsState call (first_told call.disks) (Session [])) call.status call.sink call.sink') known state);
+        disks = all_back call.status call.disks call.disks' w (given_back (over_disks call.disks) lanes call.disks' w has all apart counted);
+      }
+
+  pub unopened_ends : (stop : NotedStop) → EndsUnopened number (recovered bytes) stop call.status call.sink call.sink' → StopEnds number call
+  unopened_ends LogFull ends = absurd ends
+  unopened_ends NoMemory ends = starved_named number call ends.0 source ends.1 main
+  unopened_ends MetaFailed ends = unopened_put (ToCall number) record { few = omega arith; asked = refl; lines = no_lines call none } ends
+  unopened_ends MetaFull ends = unopened_put ToFull record { few = omega arith; asked = tt; lines = no_lines call none } ends

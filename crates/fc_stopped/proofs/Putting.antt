@@ -58,12 +58,6 @@ module _ (known : List ℕ) (IsText : List ℕ → Type 0) (before mid put : Sin
       let both : Written before (known ++ state.0) false put = Written-then before known mid state.0 false put first state.1 in
       subst Ends (sym sent.0) (state.0, adds_all before.held (known ++ state.0) after.held (ap (λ (k : SinkState). k.held) sent.1 ∙ both.held))
 
--- Of another text of which this holds too.
-pub state_as : (written : Result (Unit {0}) Unwritten) (Of To : List ℕ → Type 0) (before after : SinkState) → ((text : List ℕ) → Of text → To text) → StateIsPut written Of before after → StateIsPut written To before after
-state_as (Ok done) Of To before after turns state = (state.0, turns state.0 state.1, state.2)
-state_as (Err Failed) Of To before after turns state = state
-state_as (Err NoMemory) Of To before after turns state = state
-
 -- Not all of the known text was put.
 pub known_cut : (known : List ℕ) (IsText : List ℕ → Type 0) (before after : SinkState) → Written before known true after → StatePut known IsText status.WriteFault before after
 known_cut known IsText before after written =

@@ -10,8 +10,9 @@ use Rattle.fc_entry.specs.HistoryState.{HistoryState}
 use Rattle.fc_entry.specs.Lines.{all_lines, ended_lines}
 use Rattle.fc_io.specs.Source.{SourceState}
 use Rattle.fc_legal.proofs.Appending.{IsLegal-partial}
-use Rattle.fc_legal.specs.Agenda.{Session as Asking, session_rules}
+use Rattle.fc_legal.specs.Agenda.{Agenda, Session as Asking, session_rules}
 use Rattle.fc_legal.specs.Legal.{IsLegal}
+use Rattle.fc_legal.specs.Run.{IsPartialRun}
 use Rattle.fc_legal.specs.Whole.{Whole}
 use Rattle.fc_marks.specs.declared.error.NotedStop.{NotedStop}
 use Rattle.fc_marks.specs.declared.error.NotedStop.TheVariants.{LogFull, MetaFailed, MetaFull, NoMemory}
@@ -25,7 +26,7 @@ use Rattle.fc_run.specs.declared.ended.Ended.TheVariants as ended
 use Rattle.fc_stopped.proofs.Left.{answered_left}
 use Rattle.fc_stopped.specs.Ending.{over_disks}
 use Rattle.fc_stopped.specs.Far.{far_of}
-use Rattle.fc_stopped.specs.Lines.{HasAnswered, HasLeft, RunsAsking, RunsLines, RunsSome, noted_runs}
+use Rattle.fc_stopped.specs.Lines.{HasAnswered, HasLeft, RunsAsking, RunsLines, RunsUpTo, noted_runs}
 use Rattle.fc_stopped.specs.Reading.{stop_reading}
 use Rattle.fc_stopped.specs.Stopped.{IsAskedFor, LinesBy}
 use Rattle.fc_stopped.specs.declared.far.Far.{Far}
@@ -33,19 +34,23 @@ use Rattle.fc_stopped.specs.declared.far.Far.TheVariants.{ToCall, ToEnd, ToFull}
 
 -- ---- what came of the lines
 
-abbrev pub ComesTo : Ended → Start → SourceState → SourceState → HistoryState → List ℕ → Whole → Type 0
-ComesTo ended.Done start source source' history bytes last =
-    IsAtEnd source' × (length bytes ≤ input_limit) × RunsLines start (all_lines bytes) history last
-ComesTo ended.Unended start source source' history bytes last = ⊥
-ComesTo ended.ReadFault start source source' history bytes last =
+abbrev pub ComesTo : Ended → Start → SourceState → SourceState → HistoryState → List ℕ → Agenda → Whole → Type 0
+ComesTo ended.Done start source source' history bytes left last =
+    IsAtEnd source' × (length bytes ≤ input_limit) × RunsLines start (all_lines bytes) history last × (left ≡ Asking [])
+ComesTo ended.Unended start source source' history bytes left last = ⊥
+ComesTo ended.ReadFault start source source' history bytes left last =
     HasRisen source.faults source'.faults × (length bytes ≤ input_limit) × RunsLines start (ended_lines bytes) history last
-ComesTo ended.TooLong start source source' history bytes last =
+ComesTo ended.TooLong start source source' history bytes left last =
     (kept : List ℕ) × (past : ℕ) × (bytes ≡ kept ++ past ∷ []) × (length kept ≡ input_limit) × RunsLines start (ended_lines kept) history last
-ComesTo ended.LogFull start source source' history bytes last =
+ComesTo ended.LogFull start source source' history bytes left last =
     (length bytes ≤ input_limit) × OfFirstTaken source' bytes (λ lines. RunsAsking start lines history last) × (length history.entries ≡ 262144)
-ComesTo ended.WriteFault start source source' history bytes last = ⊥
-ComesTo ended.NoMemory start source source' history bytes last =
-    (length bytes ≤ input_limit) × OfFirstTaken source' bytes (λ lines. RunsSome start lines history last)
+ComesTo ended.WriteFault start source source' history bytes left last = ⊥
+ComesTo ended.NoMemory start source source' history bytes left last =
+    (length bytes ≤ input_limit) × OfFirstTaken source' bytes (λ lines. RunsUpTo start lines history left last)
+
+-- Some first lines are answered, whatever is left.
+abbrev pub RunsSome : Start → List (List ℕ) → HistoryState → Whole → Type 0
+RunsSome start lines history last = IsPartialRun start.grain stop_reading (first_told start.disks) (map single lines) history.entries last
 
 -- this holds of the same first lines
 first_taken :
@@ -61,33 +66,36 @@ asking_some : (start : Start) (lines : List (List ℕ)) (history : HistoryState)
 asking_some start lines history last run =
     GoesSome-asking (session_rules start.grain stop_reading) (Asking (map single lines)) (first_told start.disks) last history.entries run
 
+up_to_some : (start : Start) (lines : List (List ℕ)) (history : HistoryState) (left : Agenda) (last : Whole) → RunsUpTo start lines history left last → RunsSome start lines history last
+up_to_some start lines history left last run = record { end = left; goes = run }
+
 module _ {C D : Type 0} (seen : D → List ℕ) (may_leave : D → List ℕ → Type 0) (n : Noted C D) (stop : Option NotedStop) (start : Start) (s : Session) (bytes : List ℕ) (room : length s.history.entries ≤ 262144) where
-  abbrev To : Ended → Whole → Type 0
-  To e last = ComesTo e start s.source s.source' s.history bytes last
+  abbrev To : Ended → Agenda → Whole → Type 0
+  To e left last = ComesTo e start s.source s.source' s.history bytes left last
 
-  held_as : (Holds : Whole → Type 0) (To : Whole → Type 0) (l : HasLeft seen may_leave n start s.history Holds) → To l.last → HasLeft seen may_leave n start s.history To
-  held_as Holds To l to = record { lanes = l.lanes; last = l.last; told = l.told; leaves = l.leaves; holds = to }
+  held_as : (Holds : Agenda → Whole → Type 0) (To : Agenda → Whole → Type 0) (l : HasLeft seen may_leave n start s.history Holds) → To l.left l.last → HasLeft seen may_leave n start s.history To
+  held_as Holds To l to = record { lanes = l.lanes; last = l.last; left = l.left; told = l.told; leaves = l.leaves; holds = to }
 
-  starved_left : (few : length bytes ≤ input_limit) (taken : OfFirstTaken s.source' bytes (λ first. HasAnswered seen may_leave n stop start first s.history ⊎ HasLeft seen may_leave n start s.history (RunsSome start first s.history))) →
-      HasAnswered seen may_leave n stop start taken.of.first s.history ⊎ HasLeft seen may_leave n start s.history (RunsSome start taken.of.first s.history) → HasLeft seen may_leave n start s.history (To ended.NoMemory)
+  starved_left : (few : length bytes ≤ input_limit) (taken : OfFirstTaken s.source' bytes (λ first. HasAnswered seen may_leave n stop start first s.history ⊎ HasLeft seen may_leave n start s.history (RunsUpTo start first s.history))) →
+      HasAnswered seen may_leave n stop start taken.of.first s.history ⊎ HasLeft seen may_leave n start s.history (RunsUpTo start taken.of.first s.history) → HasLeft seen may_leave n start s.history (To ended.NoMemory)
   starved_left few taken (inl a) =
-      answered_left seen may_leave n stop start taken.of.first s.history a room (To ended.NoMemory)
-      (few, first_taken s.source' bytes _ (λ lines. RunsSome start lines s.history a.last) taken (whole_some start taken.of.first s.history a.last a.run))
+      answered_left seen may_leave n stop start taken.of.first s.history a room a.run.end (To ended.NoMemory)
+      (few, first_taken s.source' bytes _ (λ lines. RunsUpTo start lines s.history a.run.end a.last) taken a.run.goes)
   starved_left few taken (inr l) =
-      held_as (RunsSome start taken.of.first s.history) (To ended.NoMemory) l (few, first_taken s.source' bytes _ (λ lines. RunsSome start lines s.history l.last) taken l.holds)
+      held_as (RunsUpTo start taken.of.first s.history) (To ended.NoMemory) l (few, first_taken s.source' bytes _ (λ lines. RunsUpTo start lines s.history l.left l.last) taken l.holds)
 
   -- What is told is left so; the sink that the session wrote to didn't fail.
   pub session_left : (e : Ended) → (HasRisen s.sink.faults s.sink'.faults → ⊥) → EndsAs e s (noted_runs seen may_leave n stop start) bytes → HasLeft seen may_leave n start s.history (To e)
   session_left ended.Done quiet ends =
-      answered_left seen may_leave n stop start (all_lines bytes) s.history ends.2 room (To ended.Done) (ends.0, ends.1, ends.2.run)
+      answered_left seen may_leave n stop start (all_lines bytes) s.history ends.2 room (Asking []) (To ended.Done) (ends.0, ends.1, ends.2.run, refl)
   session_left ended.Unended quiet ends = absurd (cc ends.3)
   session_left ended.ReadFault quiet ends =
-      answered_left seen may_leave n stop start (ended_lines bytes) s.history ends.2 room (To ended.ReadFault) (ends.0, ends.1, ends.2.run)
+      answered_left seen may_leave n stop start (ended_lines bytes) s.history ends.2 room (Asking []) (To ended.ReadFault) (ends.0, ends.1, ends.2.run)
   session_left ended.TooLong quiet ends =
-      answered_left seen may_leave n stop start (ended_lines ends.0) s.history ends.4 room (To ended.TooLong) (ends.0, ends.1, ends.2, ends.3, ends.4.run)
+      answered_left seen may_leave n stop start (ended_lines ends.0) s.history ends.4 room (Asking []) (To ended.TooLong) (ends.0, ends.1, ends.2, ends.3, ends.4.run)
   session_left ended.LogFull quiet ends =
       let l = ends.1.of.holds in
-      held_as (RunsAsking start ends.1.of.first s.history) (To ended.LogFull) l
+      held_as (λ left last. RunsAsking start ends.1.of.first s.history last) (To ended.LogFull) l
       (ends.0, first_taken s.source' bytes _ (λ lines. RunsAsking start lines s.history l.last) ends.1 l.holds, ends.2)
   session_left ended.WriteFault quiet ends = absurd (quiet ends.0)
   session_left ended.NoMemory quiet ends = starved_left ends.0 ends.1 ends.1.of.holds
@@ -115,31 +123,40 @@ kept_taken source bytes kept past Of is of =
 past_few : (bytes kept : List ℕ) (past : ℕ) → bytes ≡ kept ++ past ∷ [] → length kept ≡ input_limit → length bytes ≤ input_limit + 1
 past_few bytes kept past is full = omega (arith, ap (length {A = ℕ}) is, length-append kept (past ∷ []), full)
 
-pub takes_some : (e : Ended) (start : Start) (source source' : SourceState) (history : HistoryState) (bytes : List ℕ) (last : Whole) → ComesTo e start source source' history bytes last →
+-- it holds of the same first lines where another thing does
+taken_as : (source : SourceState) (bytes : List ℕ) (Holds Of : List (List ℕ) → Type 0) → ((lines : List (List ℕ)) → Holds lines → Of lines) → OfFirstTaken source bytes Holds → OfFirstTaken source bytes Of
+taken_as source bytes Holds Of turns taken = first_taken source bytes Holds Of taken (turns taken.of.first taken.of.holds)
+
+pub some_taken : (start : Start) (source : SourceState) (history : HistoryState) (bytes : List ℕ) (left : Agenda) (last : Whole) → OfFirstTaken source bytes (λ lines. RunsUpTo start lines history left last) →
+    OfFirstTaken source bytes (λ lines. RunsSome start lines history last)
+some_taken start source history bytes left last taken =
+    taken_as source bytes (λ lines. RunsUpTo start lines history left last) (λ lines. RunsSome start lines history last) (λ lines run. up_to_some start lines history left last run) taken
+
+pub takes_some : (e : Ended) (start : Start) (source source' : SourceState) (history : HistoryState) (bytes : List ℕ) (left : Agenda) (last : Whole) → ComesTo e start source source' history bytes left last →
     TakesSome start source' history bytes last
-takes_some ended.Done start source source' history bytes last to =
+takes_some ended.Done start source source' history bytes left last to =
     record {
       few = omega (arith, to.1);
       taken = all_taken source' bytes (all_lines bytes) (λ lines. RunsSome start lines history last) (inr (to.0, refl)) (whole_some start (all_lines bytes) history last to.2);
     }
-takes_some ended.Unended start source source' history bytes last to = absurd to
-takes_some ended.ReadFault start source source' history bytes last to =
+takes_some ended.Unended start source source' history bytes left last to = absurd to
+takes_some ended.ReadFault start source source' history bytes left last to =
     record {
       few = omega (arith, to.1);
       taken = all_taken source' bytes (ended_lines bytes) (λ lines. RunsSome start lines history last) (inl refl) (whole_some start (ended_lines bytes) history last to.2);
     }
-takes_some ended.TooLong start source source' history bytes last to =
+takes_some ended.TooLong start source source' history bytes left last to =
     record {
       few = past_few bytes to.0 to.1 to.2 to.3;
       taken = kept_taken source' bytes to.0 to.1 (λ lines. RunsSome start lines history last) to.2 (whole_some start (ended_lines to.0) history last to.4);
     }
-takes_some ended.LogFull start source source' history bytes last to =
+takes_some ended.LogFull start source source' history bytes left last to =
     record {
       few = omega (arith, to.0);
-      taken = first_taken source' bytes _ (λ lines. RunsSome start lines history last) to.1 (asking_some start to.1.of.first history last to.1.of.holds);
+      taken = taken_as source' bytes (λ lines. RunsAsking start lines history last) (λ lines. RunsSome start lines history last) (λ lines run. asking_some start lines history last run) to.1;
     }
-takes_some ended.WriteFault start source source' history bytes last to = absurd to
-takes_some ended.NoMemory start source source' history bytes last to = record { few = omega (arith, to.0); taken = to.1 }
+takes_some ended.WriteFault start source source' history bytes left last to = absurd to
+takes_some ended.NoMemory start source source' history bytes left last to = record { few = omega (arith, to.0); taken = some_taken start source' history bytes left last to.1 }
 
 pub is_legal : (start : Start) (source : SourceState) (history : HistoryState) (bytes : List ℕ) (last : Whole) → TakesSome start source history bytes last →
     IsLegal start.grain (first_told start.disks) history.entries last
@@ -148,36 +165,36 @@ is_legal start source history bytes last some =
 
 -- ---- how far it came
 
-pub record CameFar (number : ℕ) (far : Far) (call : Call) (bytes : List ℕ) (last : Whole) : Type 0 where
+pub record CameFar (number : ℕ) (far : Far) (call : Call) (bytes : List ℕ) (left : Agenda) (last : Whole) : Type 0 where
   pub few : length bytes ≤ input_limit
   pub asked : IsAskedFor number far
-  pub lines : LinesBy far call last bytes
+  pub lines : LinesBy far call last left bytes
 
-came_as : (number : ℕ) (is far : Far) (call : Call) (bytes : List ℕ) (last : Whole) → is ≡ far → CameFar number is call bytes last → CameFar number far call bytes last
-came_as number is far call bytes last same came = subst (λ (f : Far). CameFar number f call bytes last) same came
+abbrev pub CallTo : Ended → Call → List ℕ → Agenda → Whole → Type 0
+CallTo e call bytes left last = ComesTo e (over_disks call.disks) call.source call.source' call.history bytes left last
 
-abbrev pub CallTo : Ended → Call → List ℕ → Whole → Type 0
-CallTo e call bytes last = ComesTo e (over_disks call.disks) call.source call.source' call.history bytes last
+module _ (number : ℕ) (call : Call) (bytes : List ℕ) (left : Agenda) (last : Whole) where
+  came_as : (is far : Far) → is ≡ far → CameFar number is call bytes left last → CameFar number far call bytes left last
+  came_as is far same came = subst (λ (f : Far). CameFar number f call bytes left last) same came
 
-came_stopped : (number : ℕ) (stop : Option NotedStop) (far : Far) (call : Call) (bytes : List ℕ) (last : Whole) → far_of number ended.NoMemory stop ≡ Ok far → CallTo ended.NoMemory call bytes last →
-    CameFar number far call bytes last
-came_stopped number None far call bytes last is to = absurd (cc is)
-came_stopped number (Some LogFull) far call bytes last is to = absurd (cc is)
-came_stopped number (Some NoMemory) far call bytes last is to = absurd (cc is)
-came_stopped number (Some MetaFailed) far call bytes last is to =
-    let same : ToCall number ≡ far = cc is in
-    came_as number (ToCall number) far call bytes last same record { few = to.0; asked = refl; lines = to.1 }
-came_stopped number (Some MetaFull) far call bytes last is to =
-    let same : ToFull ≡ far = cc is in
-    came_as number ToFull far call bytes last same record { few = to.0; asked = tt; lines = to.1 }
+  came_stopped : (stop : Option NotedStop) (far : Far) → far_of number ended.NoMemory stop ≡ Ok far → CallTo ended.NoMemory call bytes left last → CameFar number far call bytes left last
+  came_stopped None far is to = absurd (cc is)
+  came_stopped (Some LogFull) far is to = absurd (cc is)
+  came_stopped (Some NoMemory) far is to = absurd (cc is)
+  came_stopped (Some MetaFailed) far is to =
+      let same : ToCall number ≡ far = cc is in
+      came_as (ToCall number) far same record { few = to.0; asked = refl; lines = to.1 }
+  came_stopped (Some MetaFull) far is to =
+      let same : ToFull ≡ far = cc is in
+      came_as ToFull far same record { few = to.0; asked = tt; lines = to.1 }
 
-pub came_far : (number : ℕ) (e : Ended) (stop : Option NotedStop) (far : Far) (call : Call) (bytes : List ℕ) (last : Whole) → far_of number e stop ≡ Ok far → CallTo e call bytes last → CameFar number far call bytes last
-came_far number ended.Done stop far call bytes last is to =
-    let same : ToEnd ≡ far = cc is in
-    came_as number ToEnd far call bytes last same record { few = to.1; asked = tt; lines = (to.0, to.2) }
-came_far number ended.Unended stop far call bytes last is to = absurd to
-came_far number ended.ReadFault stop far call bytes last is to = absurd (cc is)
-came_far number ended.TooLong stop far call bytes last is to = absurd (cc is)
-came_far number ended.LogFull stop far call bytes last is to = absurd (cc is)
-came_far number ended.WriteFault stop far call bytes last is to = absurd to
-came_far number ended.NoMemory stop far call bytes last is to = came_stopped number stop far call bytes last is to
+  pub came_far : (e : Ended) (stop : Option NotedStop) (far : Far) → far_of number e stop ≡ Ok far → CallTo e call bytes left last → CameFar number far call bytes left last
+  came_far ended.Done stop far is to =
+      let same : ToEnd ≡ far = cc is in
+      came_as ToEnd far same record { few = to.1; asked = tt; lines = (to.0, to.2, to.3) }
+  came_far ended.Unended stop far is to = absurd to
+  came_far ended.ReadFault stop far is to = absurd (cc is)
+  came_far ended.TooLong stop far is to = absurd (cc is)
+  came_far ended.LogFull stop far is to = absurd (cc is)
+  came_far ended.WriteFault stop far is to = absurd to
+  came_far ended.NoMemory stop far is to = came_stopped stop far is to

@@ -1,5 +1,6 @@
 -- A call for which memory was wanted before anything was read or written.
 use Rattle.std.proofs.Common.{◌≡◌, ◌⊎◌, ℕ, List, [], ◌++◌, inl, inr, refl, sym, ap, subst, arith}
+use Rattle.fc_agenda.specs.Goes.{Goes, stays}
 use Rattle.fc_base.specs.declared.size.GrainSize.TheVariants.{K64}
 use Rattle.fc_call.specs.Call.{Call, empty}
 use Rattle.fc_call.specs.declared.status.Status.{Status}
@@ -8,13 +9,10 @@ use Rattle.fc_entry.specs.HistoryState.{HistoryState}
 use Rattle.fc_entry.specs.Text.{history_text}
 use Rattle.fc_entry.specs.declared.entry.Entry.{Entry}
 use Rattle.fc_io.specs.Sink.{AddsFront, SinkState}
-use Rattle.fc_legal.proofs.Appending.{IsRun-nil}
 use Rattle.fc_legal.proofs.Naming.{IsNamed-none}
-use Rattle.fc_agenda.proofs.Going.{GoesSome-whole}
 use Rattle.fc_legal.specs.Added.{IsOf}
 use Rattle.fc_legal.specs.Agenda.{Session as Asking, session_rules}
 use Rattle.fc_legal.specs.Legal.{IsLegal}
-use Rattle.fc_legal.specs.Run.{IsPartialRun}
 use Rattle.fc_legal.specs.Whole.{Whole}
 use Rattle.fc_mdisk.specs.Disk.{DiskState}
 use Rattle.fc_noted.specs.Noted.{NoHistory}
@@ -22,11 +20,13 @@ use Rattle.fc_owner.proofs.SessionOver.{gave_nothing}
 use Rattle.fc_owner.specs.FirstTold.{first_told}
 use Rattle.fc_run.specs.Input.{OfFirstTaken}
 use Rattle.fc_stopped.proofs.Putting.{adds_none}
+use Rattle.fc_stopped.proofs.Sessions.{some_taken}
+use Rattle.fc_stopped.specs.Ending.{over_disks}
 use Rattle.fc_stopped.specs.Reading.{stop_reading}
-use Rattle.fc_stopped.specs.Stopped.{AnswersSome, ComeBack, EndsBy, StopEnds}
+use Rattle.fc_stopped.specs.Stopped.{AnswersSome, AnswersUpTo, ComeBack, EndsBy, StopEnds}
 
--- Of no lines there is no entry.
-pub no_lines : (call : Call) → call.history.entries ≡ [] → OfFirstTaken call.source' [] (AnswersSome call (first_told call.disks))
+-- Of no lines there is no entry, and nothing is left to be asked.
+pub no_lines : (call : Call) → call.history.entries ≡ [] → OfFirstTaken call.source' [] (AnswersUpTo call (first_told call.disks) (Asking []))
 no_lines call none =
     let w : Whole = first_told call.disks in
     record {
@@ -36,10 +36,12 @@ no_lines call none =
         first = [];
         rest = [];
         split = refl;
-        holds = subst (λ (es : List Entry). IsPartialRun K64 stop_reading w [] es w) (sym none)
-            (GoesSome-whole (session_rules K64 stop_reading) (Asking []) w w [] (IsRun-nil K64 stop_reading w));
+        holds = subst (λ (es : List Entry). Goes (session_rules K64 stop_reading) (Asking []) w es (Asking []) w) (sym none) stays;
       };
     }
+
+pub none_answered : (call : Call) → call.history.entries ≡ [] → OfFirstTaken call.source' [] (AnswersSome call (first_told call.disks))
+none_answered call none = some_taken (over_disks call.disks) call.source' call.history [] (Asking []) (first_told call.disks) (no_lines call none)
 
 pub no_entries : (call : Call) → call.history.entries ≡ [] → IsLegal K64 (first_told call.disks) call.history.entries (first_told call.disks)
 no_entries call none = subst (λ (es : List Entry). IsLegal K64 (first_told call.disks) es (first_told call.disks)) (sym none) (IsNamed-none (first_told call.disks))
@@ -54,8 +56,8 @@ starved_by number call is source sink none named =
     let w : Whole = first_told call.disks in
     let front : AddsFront call.sink.held (history_text call.history ++ []) call.sink'.held =
     subst (λ (k : SinkState). AddsFront call.sink.held (history_text call.history ++ []) k.held) (sym sink) (adds_none call.sink.held (history_text call.history ++ [])) in
-    let ends : EndsBy number status.NoMemory call w [] = (omega arith, no_lines call none, ([], front)) in
-    let back : ComeBack status.NoMemory call.disks call.disks' = tt in
+    let ends : EndsBy number status.NoMemory call w [] = (omega arith, none_answered call none, ([], front)) in
+    let back : ComeBack status.NoMemory call.disks call.disks' w = tt in
     record {
       last = w;
       legal = no_entries call none;
@@ -63,7 +65,7 @@ starved_by number call is source sink none named =
       bytes = [];
       gave = gave_nothing call.source call.source' source;
       ends = subst (λ (s : Status). EndsBy number s call w []) (sym is) ends;
-      disks = subst (λ (s : Status). ComeBack s call.disks call.disks') (sym is) back;
+      disks = subst (λ (s : Status). ComeBack s call.disks call.disks' w) (sym is) back;
     }
 
 -- Nobody had a name yet.

@@ -5,6 +5,7 @@ use Rattle.fc_call.specs.Call.{Call}
 use Rattle.fc_call.specs.declared.status.Status.{Status}
 use Rattle.fc_entry.specs.Text.{history_text}
 use Rattle.fc_legal.specs.Added.{IsOf}
+use Rattle.fc_legal.specs.Agenda.{Agenda}
 use Rattle.fc_legal.specs.Whole.{Whole}
 use Rattle.fc_marks.specs.declared.error.NotedStop.{NotedStop}
 use Rattle.fc_mdisk.specs.Disk.{DiskState}
@@ -33,13 +34,14 @@ pub noted_left : {C : Type 0} (n : Noted C StopState) (stop : Option NotedStop) 
 noted_left n stop old {s = s} none room ends =
     session_left (λ (d : StopState). d.bytes) StopLeaves n stop (over_disks old) s ends.bytes room s.ended (no_fault s.sink.faults s.sink'.faults none) ends.ends
 
-module _ (number : ℕ) (call : Call) (e : Ended) (stop : Option NotedStop) (bytes : List ℕ) (last : Whole) (told : IsOf last call.history) (gave : Gave call.source bytes call.source') (to : CallTo e call bytes last) where
+module _ (number : ℕ) (call : Call) (e : Ended) (stop : Option NotedStop) (bytes : List ℕ) (left : Agenda) (last : Whole)
+    (told : IsOf last call.history) (gave : Gave call.source bytes call.source') (to : CallTo e call bytes left last) where
   some : TakesSome (over_disks call.disks) call.source' call.history bytes last
-  some = takes_some e (over_disks call.disks) call.source call.source' call.history bytes last to
+  some = takes_some e (over_disks call.disks) call.source call.source' call.history bytes left last to
 
   -- It came so far, and what is recovered is written.
-  pub stop_far : (far : Far) → far_of number e stop ≡ Ok far → StatePut (history_text call.history ++ far_text far) (IsState last call.history) call.status call.sink call.sink' →
-      ComeBack call.status call.disks call.disks' → StopEnds number call
+  pub stop_far : (far : Far) → far_of number e stop ≡ Ok far → StatePut (history_text call.history ++ far_text far) (IsState call last left) call.status call.sink call.sink' →
+      ComeBack call.status call.disks call.disks' last → StopEnds number call
   stop_far far is put back =
       record {
         last = last;
@@ -47,12 +49,12 @@ module _ (number : ℕ) (call : Call) (e : Ended) (stop : Option NotedStop) (byt
         named = inl told;
         bytes = bytes;
         gave = gave;
-        ends = far_ends number far call.status call bytes last (came_far number e stop far call bytes last is to) some put;
+        ends = far_ends number far call bytes left last (came_far number call bytes left last e stop far is to) some call.status put;
         disks = back;
       }
 
   -- It ended with this status.
-  pub stop_short : (asked : Status) → far_of number e stop ≡ Err asked → TextEnds (history_text call.history) asked call.status call.sink call.sink' → ComeBack call.status call.disks call.disks' →
+  pub stop_short : (asked : Status) → far_of number e stop ≡ Err asked → TextEnds (history_text call.history) asked call.status call.sink call.sink' → ComeBack call.status call.disks call.disks' last →
       StopEnds number call
   stop_short asked is text back =
       record {
@@ -61,6 +63,6 @@ module _ (number : ℕ) (call : Call) (e : Ended) (stop : Option NotedStop) (byt
         named = inl told;
         bytes = bytes;
         gave = gave;
-        ends = short_ends number call bytes last e stop asked call.status is to some text;
+        ends = short_ends number call bytes left last e stop asked call.status is to some text;
         disks = back;
       }

@@ -1,9 +1,7 @@
--- How a line is read where metadata stands on a disk that stops: by the grammar, where `together`, `actor`, `end` and `mkpreset` name no
--- line.
+-- How a line is read where metadata stands on a disk that stops: by the grammar, where `together`, `actor` and `end` name no line.
 use Rattle.std.specs.Prelude.{ℕ, List, Result, Ok, Err}
-use Rattle.fc_base.specs.declared.command.Command.TheVariants.{Mkpreset}
 use Rattle.fc_base.specs.declared.command.Line.{Line}
-use Rattle.fc_base.specs.declared.command.Line.TheVariants.{Actor, Command, End, Together}
+use Rattle.fc_base.specs.declared.command.Line.TheVariants.{Actor, End, Together}
 use Rattle.fc_base.specs.declared.command.Scope.TheVariants.{Free}
 use Rattle.fc_base.specs.declared.fault.WordFault.{WordFault}
 use Rattle.fc_base.specs.declared.fault.WordFault.TheVariants.{NotInBlock, UnknownCommand}
@@ -16,7 +14,6 @@ own_fault NotInBlock = UnknownCommand
 own_fault fault = fault
 
 abbrev pub without_blocks : Result Line WordFault → Result Line WordFault
-without_blocks (Ok (Command (Mkpreset source preset name))) = Err UnknownCommand
 without_blocks (Ok Together) = Err UnknownCommand
 without_blocks (Ok (Actor name role)) = Err UnknownCommand
 without_blocks (Ok End) = Err UnknownCommand

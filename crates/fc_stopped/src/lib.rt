@@ -4,7 +4,7 @@
 //! answered. It writes the text of the entries that were acknowledged, how far the session came, and then what a disk that is found
 //! after the stop and the disks of data say (`fc_recovery_text`).
 //!
-//! Blocks and presets name no line here: their words are those of no command (`specs/Reading`).
+//! Blocks name no line here: the words of their lines are those of no command (`specs/Reading`).
 //!
 //! In reading order: `lines` (a noted store answers the lines of a session), `nowhere` (a sink for what nobody reads), `far` (how far a
 //! session came), and `until`, which has the call; of the definitions `specs/Stopped` (how a call ends).

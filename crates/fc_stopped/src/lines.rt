@@ -10,7 +10,7 @@ ghost use Rattle.fc_owner.specs.StoreRuns.{Start};
 ghost use Rattle.fc_stopped.specs.Lines.{LineIsAnswered, noted_runs, stop_told};
 ghost use Rattle.fc_stopped.specs.Reading.{own_fault, own_reading, without_blocks};
 
-use fc_base::command::{Command, Line, Scope, ScriptLine};
+use fc_base::command::{Line, Scope, ScriptLine};
 use fc_base::fault::WordFault;
 use fc_base::outcome::NoMemory;
 use fc_entry::history::History;
@@ -35,13 +35,14 @@ pub(crate) struct NotedLines<D: Mdisk, M: MetaDisk> {
     pub stop: Option<NotedStop>,
 }
 
-/// A line as it is answered here: presets and the lines of blocks name none.
+/// A line as it is answered here: those of blocks name none.
 fn without_blocks(line: Line) -> ScriptLine
     ensures { result ≡ script_line (without_blocks (Ok line)) }
 {
     match line {
-        Line::Command(Command::Mkpreset { .. }) | Line::Together | Line::Actor { .. } | Line::End =>
-            ScriptLine::Unread(WordFault::UnknownCommand),
+        Line::Together | Line::Actor { .. } | Line::End => {
+            ScriptLine::Unread(WordFault::UnknownCommand)
+        }
         other => ScriptLine::Read(other),
     }
 }

@@ -2,20 +2,19 @@
 
 ghost use Rattle.std.specs.Prelude.{◌≡◌, ◌<◌, ◌≤◌, ◌^◌, ◌+◌, ◌++◌, [], List, OnErr, OnOk, is_err, length, map, vec_capacity, vec_len, ℕ};
 ghost use Rattle.std.specs.List.{All};
-ghost use Rattle.fc_call.specs.Call.{empty};
+ghost use Rattle.fc_call.specs.Call.{Call, empty};
 ghost use Rattle.fc_entry.specs.Text.{HasNames, history_text};
 ghost use Rattle.fc_entry.specs.Written.{Written};
 ghost use Rattle.fc_format.specs.Halves.{Image as FoundImage, recovered};
-ghost use Rattle.fc_grains.specs.Grains.{pool_of};
 ghost use Rattle.fc_image.specs.declared.image.MetaImage.{MetaImage as Said};
-ghost use Rattle.fc_kept.specs.Disks.{NamedDisk};
+ghost use Rattle.fc_legal.specs.Agenda.{Agenda};
 ghost use Rattle.fc_legal.specs.Whole.{Whole};
 ghost use Rattle.fc_mdisk.specs.Disk.{DiskState, IsFresh};
 ghost use Rattle.fc_metadisk.specs.Stop.{StopLeaves, found_after, new_stop};
 ghost use Rattle.fc_noted.specs.Noted.{NoHistory};
-ghost use Rattle.fc_noted.specs.Stopping.{Leaves};
+ghost use Rattle.fc_noted.specs.Stopping.{AreCounted, Leaves};
 ghost use Rattle.fc_recovered.specs.Recovered.{CanRecover};
-ghost use Rattle.fc_recovery_text.specs.Recovering.{IsFoundGood, IsStateText, KeepKinds};
+ghost use Rattle.fc_recovery_text.specs.Recovering.{IsFoundGood, IsStateText, KeepDisks};
 ghost use Rattle.fc_run.specs.Output.{IsWritten};
 ghost use Rattle.fc_run.specs.Takes.{EachGave};
 ghost use Rattle.fc_stopped.specs.Ending.{EndsUnopened, IsOpened, IsUnopened, StatePut, StatusWritten, TextEnds, all_disks, over_disks, own_disks};
@@ -149,8 +148,9 @@ fn end_at<D: Mdisk, K: Sink>(
     requires named { HasNames history.now }
     requires good { IsFoundGood (recovered (found_after meta)) }
     requires can { (image : Said) → recovered (found_after meta) ≡ FoundImage image → CanRecover GrainSize.K64 image lanes.items }
-    ensures kinds { KeepKinds lanes.items result.0.items }
-    ensures put { StatePut (history_text history.now ++ far_text far) (λ text. (last : List (List NamedDisk)) × IsStateText GrainSize.K64 (recovered (found_after meta)) lanes.items text last) result.1 (K.meaning sink.old) (K.meaning sink.new) }
+    ensures kept { KeepDisks lanes.items result.0.items }
+    ensures put { StatePut (history_text history.now ++ far_text far) (λ text. IsStateText GrainSize.K64 (recovered (found_after meta)) lanes.items text result.0.items) result.1
+        (K.meaning sink.old) (K.meaning sink.new) }
 {
     match put_text_and_far(history, far, sink) {
         Ok(()) => {
@@ -161,7 +161,7 @@ fn end_at<D: Mdisk, K: Sink>(
     }
 }
 
-/// The same, of a noted store, whose disks come back.
+/// The same, of a noted store, whose disks come back as they are behind the reads.
 fn end_far<D: Mdisk, K: Sink>(
     alloc: Global,
     far: Far,
@@ -171,12 +171,13 @@ fn end_far<D: Mdisk, K: Sink>(
     history: &History,
 ) -> Status
     requires named { HasNames history.now }
-    requires left { (last : Whole) × Leaves GrainSize.K64 StopLeaves noted last }
+    requires left { (last : Whole) × (left : Agenda) × Leaves GrainSize.K64 StopLeaves noted last left }
     requires lanes { (old : List DiskState) × HasLanes (over_disks old) noted.store.lanes × (length old ≤ vec_capacity disks.old) }
     requires none { disks.old.items ≡ [] }
-    ensures put { (last : Whole) → Leaves GrainSize.K64 StopLeaves noted last →
-        StatePut (history_text history.now ++ far_text far) (IsState last history.now) result (K.meaning sink.old) (K.meaning sink.new) }
-    ensures disks { (old : List DiskState) → HasLanes (over_disks old) noted.store.lanes → ComeBack result old (map D.meaning disks.new.items) }
+    ensures put { (call : Call) (last : Whole) (left : Agenda) → call.disks' ≡ map D.meaning disks.new.items → Leaves GrainSize.K64 StopLeaves noted last left →
+        StatePut (history_text history.now ++ far_text far) (IsState call last left) result (K.meaning sink.old) (K.meaning sink.new) }
+    ensures disks { (old : List DiskState) (last : Whole) → HasLanes (over_disks old) noted.store.lanes → AreCounted last noted.store.lanes →
+        ComeBack result old (map D.meaning disks.new.items) last }
 {
     match noted.into_disks() {
         Ok((lanes, meta)) => {
@@ -211,7 +212,8 @@ fn end_short<D: Mdisk, K: Sink>(
     requires lanes { (old : List DiskState) × HasLanes (over_disks old) noted.store.lanes × (length old ≤ vec_capacity disks.old) }
     requires none { disks.old.items ≡ [] }
     ensures text { TextEnds (history_text history.now) status result (K.meaning sink.old) (K.meaning sink.new) }
-    ensures disks { (old : List DiskState) → HasLanes (over_disks old) noted.store.lanes → pool_of (map D.meaning disks.new.items) ≡ pool_of old }
+    ensures disks { (old : List DiskState) (last : Whole) → HasLanes (over_disks old) noted.store.lanes → AreCounted last noted.store.lanes →
+        ComeBack result old (map D.meaning disks.new.items) last }
 {
     let (store, _) = noted.into_store();
     store.give_disks(disks);

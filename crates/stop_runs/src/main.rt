@@ -1,7 +1,8 @@
-//! A session that stops at each call of its disk of metadata: what is printed, call by call.
+//! Sessions that stop at each call of their disk of metadata: what is printed, call by call.
 //!
-//! The session is that of docs/MANUAL.md, "Stops". Its calls are 40, so at the forty-first it isn't stopped. Before what is printed of
-//! each stands a line with the call, the status, and how many disks of data came back.
+//! The first is that of docs/MANUAL.md, "Stops". Its calls are 40, so at the forty-first it isn't stopped. The other has two presets, from
+//! its fifteenth call to its last, which is the sixty-second. Before what is printed of each stands a line with the call, the status, and
+//! how many disks of data came back.
 #![tactic(auto)]
 
 ghost use Rattle.std.specs.Prelude.{◌<◌};
@@ -24,17 +25,25 @@ startfcmap -prep 0
 write A 0 1 22
 ";
 
+/// The lines of a session with presets: one that is whole, and one that is undone, since its source is offline.
+const PRESETS: &str = "mkvdisk -name A -size 64 -unit kb
+write A 0 1 11
+mkpreset -source A -preset clone -name c
+stopfcmap 0
+mkpreset -source c -preset backup -name d
+";
+
 /// The bytes of the disk of metadata.
 const META_BYTES: u32 = 4096;
 
 /// How many disks of data there are.
 const DISKS: u32 = 64;
 
-/// What is written of the session, stopped at this call: the status, how many disks come back, and the text.
-fn stopped_at(alloc: Global, call: u32) -> Result<(u8, usize, MemSink), AllocError>
+/// What is written of a session, stopped at this call: the status, how many disks come back, and the text.
+fn stopped_at(alloc: Global, session: &str, call: u32) -> Result<(u8, usize, MemSink), AllocError>
     requires { 0 < call }
 {
-    let bytes = Vec::from_slice(alloc, SESSION.as_bytes())?;
+    let bytes = Vec::from_slice(alloc, session.as_bytes())?;
     let mut source = MemSource::new(bytes, 4096, Vec::new(alloc));
     let mut sink = MemSink::new(alloc, Vec::new(alloc));
     let mut history = History::new(alloc);
@@ -57,8 +66,13 @@ fn stopped_at(alloc: Global, call: u32) -> Result<(u8, usize, MemSink), AllocErr
 fn main(rt: HostRuntime) -> io::Result<()> {
     let alloc = rt.alloc();
     for call in 1..42 {
-        let (status, disks, sink) = stopped_at(alloc, call)?;
+        let (status, disks, sink) = stopped_at(alloc, SESSION, call)?;
         println!(rt; "== {call} status {status} disks {disks}")?;
+        rt.stdout().write_all(sink.bytes())?;
+    }
+    for call in 15..64 {
+        let (status, disks, sink) = stopped_at(alloc, PRESETS, call)?;
+        println!(rt; "== presets {call} status {status} disks {disks}")?;
         rt.stdout().write_all(sink.bytes())?;
     }
     Ok(())

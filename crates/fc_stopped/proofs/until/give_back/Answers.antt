@@ -16,7 +16,7 @@ loop-lane-preserved g c =
     let done : List (List NamedDisk) = c.loop-lane.invariant.done in
     let rest : List (List NamedDisk) = c.pop_front.new.self.items in
     let split : done ++ c.in-Some.lane ∷ rest ≡ c.args.lanes.items =
-    ap (λ (ls : List (List NamedDisk)). done ++ ls) (sym c.in-Some.ensures.items) ∙ c.loop-lane.invariant.split in
+    ap (λ (ls : List (List NamedDisk)). done ++ ls) (sym {A = List (List NamedDisk)} c.in-Some.ensures.items) ∙ c.loop-lane.invariant.split in
     record {
       done = done ++ c.in-Some.lane ∷ [];
       split = moved done c.in-Some.lane rest c.args.lanes.items split;

@@ -1,7 +1,6 @@
 -- The lines are answered by a noted store that goes on from what stands, and what they leave ends the call.
 use Rattle.std.proofs.Common.{refl, map, sym, ◌∙◌}
 use Rattle.fc_call.specs.Call.{Call}
-use Rattle.fc_stopped.proofs.Ends.{all_back}
 use Rattle.fc_stopped.proofs.Opening.{opened_answers}
 use Rattle.fc_stopped.proofs.Stops.{noted_left, stop_far, stop_short}
 use Rattle.fc_stopped.specs.Ending.{over_disks}
@@ -16,7 +15,7 @@ end_far-requires-clause-left g c =
     let old = c.requires.stands.0 in
     let left = noted_left c.run_session-ended.new.answers.noted c.run_session-ended.new.answers.stop old refl c.run_session-ended.ensures.limit
     (c.run_session-ended.ensures.ends (over_disks old) (opened_answers c.args.noted old c.args.history.now c.requires.begun c.requires.stands.1)) in
-    (left.last, left.leaves)
+    (left.last, left.left, left.leaves)
 
 pub end_far-requires-clause-lanes : goal.end_far-requires-clause-lanes
 end_far-requires-clause-lanes g c =
@@ -46,8 +45,8 @@ returns-in-Ok-clause-ends g c = λ old opened.
     } in
     let ends = c.run_session-ended.ensures.ends (over_disks old) (opened_answers c.args.noted old c.args.history.now c.requires.begun opened) in
     let left = noted_left c.run_session-ended.new.answers.noted c.run_session-ended.new.answers.stop old refl c.run_session-ended.ensures.limit ends in
-    stop_far c.args.call call c.run_session-ended.result c.run_session-ended.new.answers.stop ends.bytes left.last left.told ends.gave left.holds
-    c.in-Ok.far (sym c.far_of.ensures ∙ c.in-Ok.is) (c.end_far.ensures.put left.last left.leaves) (c.end_far.ensures.disks old left.lanes)
+    stop_far c.args.call call c.run_session-ended.result c.run_session-ended.new.answers.stop ends.bytes left.left left.last left.told ends.gave left.holds
+    c.in-Ok.far (sym c.far_of.ensures ∙ c.in-Ok.is) (c.end_far.ensures.put call left.last left.left refl left.leaves) (c.end_far.ensures.disks old left.last left.lanes left.leaves.counted)
 
 pub returns-in-Err-clause-ends : goal.returns-in-Err-clause-ends
 returns-in-Err-clause-ends g c = λ old opened.
@@ -63,6 +62,5 @@ returns-in-Err-clause-ends g c = λ old opened.
     } in
     let ends = c.run_session-ended.ensures.ends (over_disks old) (opened_answers c.args.noted old c.args.history.now c.requires.begun opened) in
     let left = noted_left c.run_session-ended.new.answers.noted c.run_session-ended.new.answers.stop old refl c.run_session-ended.ensures.limit ends in
-    stop_short c.args.call call c.run_session-ended.result c.run_session-ended.new.answers.stop ends.bytes left.last left.told ends.gave left.holds
-    c.in-Err.status (sym c.far_of.ensures ∙ c.in-Err.is) c.end_short.ensures.text
-    (all_back c.end_short.result old (map g.D.Mdisk.meaning c.end_short.new.disks.items) (c.end_short.ensures.disks old left.lanes))
+    stop_short c.args.call call c.run_session-ended.result c.run_session-ended.new.answers.stop ends.bytes left.left left.last left.told ends.gave left.holds
+    c.in-Err.status (sym c.far_of.ensures ∙ c.in-Err.is) c.end_short.ensures.text (c.end_short.ensures.disks old left.last left.lanes left.leaves.counted)

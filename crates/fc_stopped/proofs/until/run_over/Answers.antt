@@ -1,18 +1,22 @@
 -- Memory was wanted before anything was read; or the first image isn't written; or the session runs.
-use Rattle.std.proofs.Common.{◌≡◌, ◌++◌, List, [], Vec, Global, length, map, ap, ◌∙◌, arith, refl, vec_len, vec_capacity}
+use Rattle.std.proofs.Common.{◌≡◌, ◌++◌, List, [], Vec, Global, length, map, ap, sym, subst, ◌∙◌, arith, refl, vec_len, vec_capacity}
 use Rattle.std.proofs.lemmas.List.{length-map}
 use Rattle.fc_call.specs.Call.{Call}
-use Rattle.fc_grains.specs.Grains.{pool_of, total_of}
-use Rattle.fc_lanes.specs.Dealing.{disks_in}
+use Rattle.fc_grains.specs.Grains.{total_of}
+use Rattle.fc_lane.specs.Lane.{LaneView}
+use Rattle.fc_lanes.specs.Dealing.{AreAllIn, AreByLane, disks_in}
 use Rattle.fc_mdisk.specs.Disk.{DiskState}
 use Rattle.fc_metadisk.specs.Stop.{found_after}
 use Rattle.fc_noted.specs.Noted.{BeginsOver}
+use Rattle.fc_noted.specs.Stopping.{AreCounted}
+use Rattle.fc_owner.specs.FirstTold.{first_told}
 use Rattle.fc_stands.specs.Store.{StoreView}
 use Rattle.fc_stopped.proofs.Found.{found_leaves, unopened}
 use Rattle.fc_stopped.proofs.Lanes.{count_in}
-use Rattle.fc_stopped.proofs.Opening.{begin_lanes, begins_over, is_opened, synced_at_first, unopened_ends, zeros_at_first}
+use Rattle.fc_stopped.proofs.Opening.{begin_counted, begin_lanes, begins_over, is_opened, synced_at_first, unopened_ends, zeros_at_first}
 use Rattle.fc_stopped.proofs.Starved.{starved_named, starved_stop}
 use Rattle.fc_stopped.specs.Ending.{over_disks}
+use Rattle.fc_stopped.specs.Lines.{HasLanes}
 use Rattle.fc_stopped.proofs.until.run_over.Goals as goal
 
 pub returns-in-Err-clause-ends : goal.returns-in-Err-clause-ends
@@ -110,9 +114,12 @@ returns-in-Err-over-clause-ends g c =
       disks' = map g.D.Mdisk.meaning c.give_disks.new.into.items;
       history = c.add_main.new.history;
     } in
-    unopened_ends c.args.call c.in-Err-over.stop call (found_after c.in-Err-over.meta) c.in-Ok.ensures.ok refl
-    (c.in-Err-over.ensures.any_moment.each (found_after c.in-Err-over.meta) (found_leaves c.in-Err-over.meta)) c.end_unopened.ensures
-    (ap (λ (xs : List g.row.D.Denot). pool_of (map m xs)) back
-    ∙ c.give_disks.ensures.2.kinds
-    ∙ ap (λ (s : StoreView). disks_in s.lanes) c.in-Err-over.ensures.back
-    ∙ (begin_lanes c.len-count.result old store c.in-Ok-first_store.ensures.grain begins).disks)
+    let lanes : List LaneView = c.in-Err-over.store.lanes in
+    let has : HasLanes (over_disks old) lanes =
+    subst (λ (s : StoreView). HasLanes (over_disks old) s.lanes) (sym c.in-Err-over.ensures.back) (begin_lanes c.len-count.result old store c.in-Ok-first_store.ensures.grain begins) in
+    let counted : AreCounted (first_told old) lanes = subst (λ (s : StoreView). AreCounted (first_told old) s.lanes) (sym c.in-Err-over.ensures.back) (begin_counted c.len-count.result old store begins) in
+    unopened_ends c.args.call call (found_after c.in-Err-over.meta) lanes c.in-Ok.ensures.ok refl
+    (c.in-Err-over.ensures.any_moment.each (found_after c.in-Err-over.meta) (found_leaves c.in-Err-over.meta)) has counted
+    (subst (λ (xs : List g.row.D.Denot). AreAllIn lanes (map m xs)) (sym back) c.give_disks.ensures.2)
+    (subst (λ (xs : List g.row.D.Denot). AreByLane lanes (map m xs)) (sym back) c.give_disks.ensures.3)
+    c.in-Err-over.stop c.end_unopened.ensures

@@ -1,5 +1,7 @@
--- What its script asks is answered.
-use Rattle.std.proofs.Common.{Ok, ap, subst, ◌∙◌}
+-- What its script asks is answered, if it has one.
+use Rattle.std.proofs.Common.{Ok, ap, subst, sym, ◌∙◌}
+use Rattle.fc_noted.proofs.Halting.{not_taken_up}
+use Rattle.fc_noted.proofs.KeepingLanes.{lanes_stay}
 use Rattle.fc_noted.proofs.Lines.{line_answered, line_halted}
 use Rattle.fc_noted.specs.Making.{KeepLanes}
 use Rattle.fc_noted.proofs.noted.Noted.run_line.Goals as goal
@@ -11,15 +13,22 @@ make_all-requires-clause-at g c =
 pub make_all-requires-clause-live : goal.make_all-requires-clause-live
 make_all-requires-clause-live g c = ap (λ n. n.live) c.begin_line.ensures.others ∙ c.requires.live
 
-pub returns-clause-answered : goal.returns-clause-answered
-returns-clause-answered g c =
-    line_answered g.M.MetaDisk.seen g.M.MetaDisk.may_leave c.args.self.now c.begin_line.new.self c.args.history.now (Ok c.args.line) c.begin_line.ensures.others c.begin_line.ensures.line
+pub returns-in-Ok-clause-answered : goal.returns-in-Ok-clause-answered
+returns-in-Ok-clause-answered g c =
+    line_answered g.M.MetaDisk.seen g.M.MetaDisk.may_leave c.args.self.now c.begin_line.new.self c.args.history.now (Ok c.args.line) c.begin_line.ensures.others c.in-Ok.ensures.line
     c.begin_line.ensures.at c.make_all.new.self c.make_all.new.history c.make_all.result c.make_all.ensures.answered
 
-pub returns-clause-halted : goal.returns-clause-halted
-returns-clause-halted g c =
-    line_halted g.M.MetaDisk.seen g.M.MetaDisk.may_leave c.args.self.now c.begin_line.new.self c.args.history.now (Ok c.args.line) c.begin_line.ensures.others c.begin_line.ensures.line
+pub returns-in-Ok-clause-halted : goal.returns-in-Ok-clause-halted
+returns-in-Ok-clause-halted g c =
+    line_halted g.M.MetaDisk.seen g.M.MetaDisk.may_leave c.args.self.now c.begin_line.new.self c.args.history.now (Ok c.args.line) c.begin_line.ensures.others c.in-Ok.ensures.line
     c.begin_line.ensures.at c.make_all.new.self c.make_all.new.history c.make_all.result c.make_all.ensures.halted
 
-pub returns-clause-lanes : goal.returns-clause-lanes
-returns-clause-lanes g c = subst (λ n. KeepLanes n.store c.make_all.new.self.store) c.begin_line.ensures.others c.make_all.ensures.lanes
+pub returns-in-Ok-clause-lanes : goal.returns-in-Ok-clause-lanes
+returns-in-Ok-clause-lanes g c = subst (λ n. KeepLanes n.store c.make_all.new.self.store) c.begin_line.ensures.others c.make_all.ensures.lanes
+
+pub returns-in-Err-clause-halted : goal.returns-in-Err-clause-halted
+returns-in-Err-clause-halted g c = λ read bytes w least is at.
+    not_taken_up g.M.MetaDisk.seen g.M.MetaDisk.may_leave c.args.self.now c.begin_line.new.self c.args.history.now c.in-Err.ensures.refused c.requires.room read bytes w least at
+
+pub returns-in-Err-clause-lanes : goal.returns-in-Err-clause-lanes
+returns-in-Err-clause-lanes g c = subst (λ n. KeepLanes c.args.self.now.store n.store) (sym c.in-Err.ensures.refused) (lanes_stay c.args.self.now.store)

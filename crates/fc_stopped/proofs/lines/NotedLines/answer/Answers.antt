@@ -1,12 +1,8 @@
 -- A line is answered as it was read.
 use Rattle.std.proofs.Common.{Ok, Err, sym, ◌∙◌}
 use Rattle.fc_stopped.proofs.Answering.{line_is_answered}
-use Rattle.fc_stopped.proofs.Reading.{stop_fault, stop_line, store_line}
+use Rattle.fc_stopped.proofs.Reading.{stop_fault, stop_line}
 use Rattle.fc_stopped.proofs.lines.NotedLines.answer.Goals as goal
-
-pub run_line-requires-clause-own : goal.run_line-requires-clause-own
-run_line-requires-clause-own g c =
-    store_line c.args.self.now.noted.store.control.tables c.requires.read.0 c.in-Read.line (sym c.in-Read.is ∙ c.requires.read.1)
 
 pub returns-in-Read-clause-answered : goal.returns-in-Read-clause-answered
 returns-in-Read-clause-answered g c = λ bytes w least is at.
