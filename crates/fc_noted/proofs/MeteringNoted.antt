@@ -9,7 +9,6 @@ use Rattle.fc_entry.specs.HistoryState.{HistoryState}
 use Rattle.fc_entry.specs.declared.entry.Entry.{Entry}
 use Rattle.fc_image.specs.declared.record.MetaRecord.{MetaRecord}
 use Rattle.fc_kept.specs.Actions.{Action, Action.Note}
-use Rattle.fc_legal.specs.Agenda.{Asks}
 use Rattle.fc_legal.specs.Whole.{Whole}
 use Rattle.fc_marks.specs.Meter.{IsCalledWithin, IsMetered, IsPut, Meter, with_record}
 use Rattle.fc_marks.specs.declared.error.NotedStop.{NotedStop}
@@ -18,13 +17,13 @@ use Rattle.fc_meta.specs.Answers.{more_calls}
 use Rattle.fc_meta.specs.States.{IsResting, disk_of, room_of, used_of}
 use Rattle.fc_meta.specs.declared.meta.Meta.{Meta}
 use Rattle.fc_noted.proofs.Metering.{goes_into, one_done}
+use Rattle.fc_noted.proofs.Stepping.{doing_asked}
 use Rattle.fc_noted.specs.Making.{CountsInto, KeepsCount}
 use Rattle.fc_noted.specs.Metered.{Acted, GoesInto, Metered, SoFar, after_actions}
 use Rattle.fc_noted.specs.Noted.{CountsSoFar, IsDoing}
 use Rattle.fc_noted.specs.declared.noted.Noted.{Noted}
 use Rattle.fc_noted.specs.declared.noted.UnderWay.{UnderWay}
 use Rattle.fc_rules.specs.Steps.{DiskStep}
-use Rattle.fc_script.specs.Script.{agenda_of}
 use Rattle.fc_stands.specs.Store.{StoreView}
 use Rattle.fc_steps.specs.Asking.{request_of}
 use Rattle.fc_steps.specs.declared.stop.Stop.{Stop}
@@ -156,7 +155,7 @@ module _ {C D : Type 0} (seen : D → List ℕ) (may_leave : D → List ℕ → 
           request = r;
           asking = old.script;
           reached = λ read. stays;
-          asked = subst (λ (g : GrainSize). Asks g (agenda_of g old.script) w (0, r)) (sym here) d.asked;
+          asked = doing_asked seen may_leave old way history w least d;
           meter = c.before;
           metered = subst (λ (g : GrainSize). Metered g half history.entries w c.before) (sym here) c.metered;
           into = into;

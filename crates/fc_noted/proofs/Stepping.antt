@@ -5,18 +5,21 @@ use Rattle.fc_agenda.specs.Goes.{stays}
 use Rattle.fc_base.specs.declared.size.GrainSize.{GrainSize}
 use Rattle.fc_changed.specs.Row.{Row}
 use Rattle.fc_entry.specs.HistoryState.{HistoryState}
+use Rattle.fc_legal.specs.Agenda.{Asks}
 use Rattle.fc_legal.specs.Whole.{Whole}
 use Rattle.fc_marks.specs.declared.error.NotedStop.TheVariants.{LogFull, MetaFailed}
 use Rattle.fc_marks.specs.declared.error.NotedStop.{NotedStop}
 use Rattle.fc_metadisk.specs.Disk.{LeavesOnly}
 use Rattle.fc_noted.specs.Making.{CountsInto, StepMade, WayMade, done}
 use Rattle.fc_noted.specs.Noted.{IsAtBy, IsDoing}
-use Rattle.fc_noted.specs.Stopping.{HasStopped, LeavesRecoverable}
+use Rattle.fc_noted.specs.Stopping.{AsksSome, HasStopped, LeavesRecoverable}
 use Rattle.fc_noted.specs.declared.noted.Noted.{Noted}
 use Rattle.fc_noted.specs.declared.noted.UnderWay.{UnderWay}
 use Rattle.fc_script.specs.Passage.{GoesOn}
 use Rattle.fc_script.specs.Script.{agenda_of}
 use Rattle.fc_script.specs.declared.script.Script.{Script}
+use Rattle.fc_stands.specs.Store.{StoreView}
+use Rattle.fc_steps.specs.Asking.{request_of}
 
 module _ {C D : Type 0} (seen : D → List ℕ) (may_leave : D → List ℕ → Type 0) (moment : D → ℕ) (left_since : D → ℕ → List ℕ → Type 0) (old new : Noted C D) (before after : HistoryState) where
   -- the entry that is under way is this one
@@ -53,6 +56,16 @@ module _ {C D : Type 0} (seen : D → List ℕ) (may_leave : D → List ℕ → 
   step_ended (Err stop) e made = ended stop made
 
 -- ---- with the entry that was taken out
+
+-- what it is of is asked next
+pub doing_asked : {C D : Type 0} (seen : D → List ℕ) (may_leave : D → List ℕ → Type 0) (n : Noted C D) (way : UnderWay) (history : HistoryState) (w : Whole) (least : List Row) → IsDoing seen may_leave n way history w least →
+    Asks n.store.control.grain (agenda_of n.store.control.grain n.script) w (0, request_of way.doing.steps.ask)
+doing_asked seen may_leave n way history w least d =
+    subst (λ (g : GrainSize). Asks g (agenda_of g n.script) w (0, request_of way.doing.steps.ask)) (sym (ap (λ (s : StoreView). s.control.grain) d.since)) d.asked
+
+pub doing_asks : {C D : Type 0} (seen : D → List ℕ) (may_leave : D → List ℕ → Type 0) (n : Noted C D) (way : UnderWay) (history : HistoryState) (w : Whole) (least : List Row) → IsDoing seen may_leave n way history w least →
+    AsksSome n.store.control.grain n.script w
+doing_asks seen may_leave n way history w least d = (n.script, request_of way.doing.steps.ask, λ read. stays, doing_asked seen may_leave n way history w least d)
 
 abbrev refused : NotedStop → Result Bool NotedStop
 refused stop = Err stop

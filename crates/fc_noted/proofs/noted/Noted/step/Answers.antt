@@ -4,7 +4,7 @@ use Rattle.std.specs.Prelude.{Ok, true}
 use Rattle.std.proofs.lemmas.Result.{err_from_is_err_and}
 use Rattle.fc_noted.proofs.Ended.{doing_taken}
 use Rattle.fc_noted.proofs.MeteringNoted.{calls_of_error, same_calls}
-use Rattle.fc_noted.proofs.Stepping.{step_failed, step_same}
+use Rattle.fc_noted.proofs.Stepping.{doing_asks, step_failed, step_same}
 use Rattle.fc_noted.specs.Making.{done}
 use Rattle.fc_noted.specs.Noted.{IsAtBy}
 use Rattle.fc_noted.specs.declared.noted.UnderWay.{UnderWay}
@@ -47,4 +47,6 @@ go_on-requires-clause-at g c =
     (can.w, can.least, doing_taken g.M.MetaDisk.seen g.M.MetaDisk.may_leave c.args.self.now c.in-Some.way c.take.new.self c.args.history.now can.w can.least d)
 
 pub returns-in_err-go_on-in-Some-clause-full : goal.returns-in_err-go_on-in-Some-clause-full
-returns-in_err-go_on-in-Some-clause-full g c = ?
+returns-in_err-go_on-in-Some-clause-full g c told w least at =
+    doing_asks g.M.MetaDisk.seen g.M.MetaDisk.may_leave c.args.self.now c.in-Some.way c.args.history.now w least
+    (subst (λ (o : Option UnderWay). IsAtBy g.M.MetaDisk.seen g.M.MetaDisk.may_leave o c.args.self.now c.args.history.now w least) (sym c.take.ensures.value ∙ c.in-Some.is) at)
