@@ -46,3 +46,5 @@ mod CommandEntry
 mod Metering
 mod MeteringHand
 mod MeteringSteps
+mod Calls
+mod MeteringNoted
