@@ -98,7 +98,7 @@ pub record KeepsCount {T C D : Type 0} (seen : D → List ℕ) (fault_count call
   pub failed : IsErrOf result MetaFailed → HasRisen (fault_count (disk_of old.meta)) (fault_count (disk_of new.meta))
   pub size : room_of seen new.meta ≡ room_of seen old.meta
 
--- The calls that are counted go as far into a request as it goes that is asked next.
+-- The calls that are counted go as far into a request as it goes that is asked next; those of the entries are counted before.
 pub record CountsInto {C D : Type 0} (seen : D → List ℕ) (old new : Noted C D) (before : HistoryState) (w : Whole) : Type 0 where
   pub request : Request
   pub asking : Script
@@ -106,6 +106,7 @@ pub record CountsInto {C D : Type 0} (seen : D → List ℕ) (old new : Noted C 
   pub asked : Asks old.store.control.grain (agenda_of old.store.control.grain asking) w (0, request)
   pub meter : Meter
   pub metered : Metered old.store.control.grain (room_of seen old.meta) before.entries w meter
+  pub paid : more_calls meter.calls 0 ≤ old.calls
   pub into : Meter
   pub goes : GoesInto old.store.control.grain (room_of seen old.meta) w meter request into
   pub calls : new.calls ≡ more_calls into.calls 0
