@@ -2,6 +2,7 @@
 pub mod Lanes
 pub mod Apart
 pub mod Counting
+pub mod Paying
 pub mod Counted
 pub mod Left
 pub mod Reading

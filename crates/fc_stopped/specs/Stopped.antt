@@ -10,7 +10,6 @@ use Rattle.fc_call.specs.declared.status.Status.{Status}
 use Rattle.fc_call.specs.declared.status.Status.TheVariants as status
 use Rattle.fc_changed.specs.Row.{Row}
 use Rattle.fc_entry.specs.HistoryState.{HistoryState}
-use Rattle.fc_entry.specs.declared.entry.Entry.{Entry}
 use Rattle.fc_entry.specs.Lines.{all_lines, ended_lines}
 use Rattle.fc_entry.specs.Text.{history_text}
 use Rattle.fc_grains.specs.Grains.{pool_of}
@@ -25,18 +24,17 @@ use Rattle.fc_legal.specs.Run.{IsPartialRun, IsRun, WantsMore}
 use Rattle.fc_legal.specs.Whole.{Whole}
 use Rattle.fc_mdisk.specs.Disk.{DiskState}
 use Rattle.fc_mdisk.specs.Disks.{calls_of, faults_of}
-use Rattle.fc_marks.specs.Meter.{Meter}
-use Rattle.fc_noted.specs.Metered.{GoesInto, Metered}
 use Rattle.fc_noted.specs.Stopping.{IsAskedSoon}
 use Rattle.fc_owner.specs.FirstTold.{first_told}
 use Rattle.fc_run.specs.Input.{Gave, IsAtEnd, OfFirstTaken, input_limit}
+use Rattle.fc_stopped.specs.Calls.{CallsBy}
 use Rattle.fc_stopped.specs.Ending.{all_disks}
 use Rattle.fc_stopped.specs.Reading.{stop_reading}
 use Rattle.fc_recovery_text.specs.Recovering.{IsImageText}
 use Rattle.fc_recovery_text.specs.Text.{no_image}
 use Rattle.fc_stopped.specs.Text.{far_text}
 use Rattle.fc_stopped.specs.declared.far.Far.{Far}
-use Rattle.fc_stopped.specs.declared.far.Far.TheVariants.{ToEnd, ToCall, ToFull}
+use Rattle.fc_stopped.specs.declared.far.Far.TheVariants.{ToEnd}
 use Rattle.law_noted.specs.One.{IsSafe}
 
 -- ---- the lines
@@ -56,31 +54,6 @@ AnswersUpTo call last left lines =
 abbrev pub LinesBy : Far → Call → Whole → Agenda → List ℕ → Type 0
 LinesBy ToEnd call last left bytes = IsAtEnd call.source' × AnswersAll call last (all_lines bytes) × (left ≡ Session [])
 LinesBy far call last left bytes = OfFirstTaken call.source' bytes (AnswersUpTo call last left)
-
--- ---- the calls of metadata's disk
-
--- How many bytes a half of the disk has.
-abbrev pub half_of_disk : ℕ
-half_of_disk = 33554432
-
--- The entries cost fewer calls, and what is asked next comes to this one.
-pub record ComesTo (number half : ℕ) (entries : List Entry) (last : Whole) (left : Agenda) : Type 0 where
-  pub meter : Meter
-  pub metered : Metered K64 half entries last meter
-  pub before : meter.calls < number
-  pub request : Request
-  pub asked : IsAskedSoon K64 last left (Some request)
-  pub into : Meter
-  pub goes : GoesInto K64 half last meter request into
-  pub reached : number ≤ into.calls
-
--- The entries cost fewer calls than the one that was asked for, unless that came while the first image was written. Where the session
--- stopped at it, it comes in what is asked next.
-abbrev pub CallsBy : ℕ → ℕ → Far → List Entry → Whole → Agenda → Type 0
-CallsBy number half ToEnd entries last left = (m : Meter) × Metered K64 half entries last m × (m.calls < number)
-CallsBy number half (ToCall failed) entries last left =
-    (failed ≡ number) × (((entries ≡ []) × (number ≤ 4)) ⊎ ComesTo number half entries last left)
-CallsBy number half ToFull entries last left = (entries ≡ []) ⊎ ((m : Meter) × Metered K64 half entries last m × (m.calls < number))
 
 -- ---- what is recovered
 
