@@ -1,6 +1,7 @@
 -- What a step makes, and what it leaves.
 use Rattle.std.specs.Prelude.{◌+◌, ◌≡◌, ◌⊎◌, ℕ, ◌≤◌, Bool, true, false, List, [], ◌∷◌, ◌++◌, length, Some, None, Result, Ok, Err, IfOk, OnErr, OnOk, IsErrOf}
 use Rattle.fc_apart.specs.Effects.{IsJoined}
+use Rattle.fc_base.specs.Count.{HasRisen}
 use Rattle.fc_base.specs.declared.command.Command.{Command}
 use Rattle.fc_base.specs.declared.decision.Decision.{Decision}
 use Rattle.fc_base.specs.declared.ids.VolId.{VolId}
@@ -86,7 +87,7 @@ GoesBehind grain Stands script entry new = (w next : Whole) → IsAnswer grain s
 
 -- ---- calls of the disk of metadata
 
--- It was called as often as was counted, and never failed; behind an error at most so often.
+-- It was called as often as was counted, and never failed; behind an error at most so often. It failed where that is told.
 pub record KeepsCount {T C D : Type 0} (seen : D → List ℕ) (fault_count calls : D → ℕ) (result : Result T NotedStop) (old new : Noted C D) : Type 0 where
   pub counted : ℕ
   pub made : ℕ
@@ -94,9 +95,10 @@ pub record KeepsCount {T C D : Type 0} (seen : D → List ℕ) (fault_count call
   pub called : calls (disk_of new.meta) ≡ more_calls made (calls (disk_of old.meta))
   pub within : made ≤ counted
   pub whole : OnOk result ((made ≡ counted) × (fault_count (disk_of new.meta) ≡ fault_count (disk_of old.meta)))
+  pub failed : IsErrOf result MetaFailed → HasRisen (fault_count (disk_of old.meta)) (fault_count (disk_of new.meta))
   pub size : room_of seen new.meta ≡ room_of seen old.meta
 
--- The calls that are counted go as far into a request as it goes that is asked next.
+-- The calls that are counted go as far into a request as it goes that is asked next; those of the entries are counted before.
 pub record CountsInto {C D : Type 0} (seen : D → List ℕ) (old new : Noted C D) (before : HistoryState) (w : Whole) : Type 0 where
   pub request : Request
   pub asking : Script
@@ -104,6 +106,7 @@ pub record CountsInto {C D : Type 0} (seen : D → List ℕ) (old new : Noted C 
   pub asked : Asks old.store.control.grain (agenda_of old.store.control.grain asking) w (0, request)
   pub meter : Meter
   pub metered : Metered old.store.control.grain (room_of seen old.meta) before.entries w meter
+  pub paid : more_calls meter.calls 0 ≤ old.calls
   pub into : Meter
   pub goes : GoesInto old.store.control.grain (room_of seen old.meta) w meter request into
   pub calls : new.calls ≡ more_calls into.calls 0

@@ -33,7 +33,7 @@ impl<D: Mdisk, M: MetaDisk> Noted<D, M> {
             (next : Whole) × (least_next : List Row) × IsNotedAt M.seen M.may_leave self.new history.new next least_next
             × Adds history.old history.new (λ more. GoesToEnd (session_rules self.old.store.control.grain read) (Session (single bytes ∷ [])) w more next)) }
         ensures halted { IfErr result (λ stop. (read : Reading) (bytes : List ℕ) (w : Whole) (least : List Row) → read w.books bytes ≡ Ok line → IsNotedAt M.seen M.may_leave self.old history.old w least →
-            LineHalts M.seen M.may_leave read stop self.old self.new bytes w history.old history.new) }
+            LineHalts M.seen M.may_leave M.fault_count M.calls read stop self.old self.new bytes w history.old history.new) }
         ensures grain { OnOk result (self.new.store.control.grain ≡ self.old.store.control.grain) }
         ensures lanes { KeepLanes self.old.store self.new.store }
         ensures counted { KeepsCount M.seen M.fault_count M.calls result self.old self.new }
@@ -59,7 +59,7 @@ impl<D: Mdisk, M: MetaDisk> Noted<D, M> {
             (next : Whole) × (least_next : List Row) × IsNotedAt M.seen M.may_leave self.new history.new next least_next
             × Adds history.old history.new (λ more. GoesToEnd (session_rules self.old.store.control.grain read) (Session (single bytes ∷ [])) w more next)) }
         ensures halted { IfErr result (λ stop. (read : Reading) (bytes : List ℕ) (w : Whole) (least : List Row) → read w.books bytes ≡ Err fault → IsNotedAt M.seen M.may_leave self.old history.old w least →
-            LineHalts M.seen M.may_leave read stop self.old self.new bytes w history.old history.new) }
+            LineHalts M.seen M.may_leave M.fault_count M.calls read stop self.old self.new bytes w history.old history.new) }
         ensures grain { OnOk result (self.new.store.control.grain ≡ self.old.store.control.grain) }
         ensures lanes { KeepLanes self.old.store self.new.store }
         ensures counted { KeepsCount M.seen M.fault_count M.calls result self.old self.new }
@@ -82,7 +82,7 @@ impl<D: Mdisk, M: MetaDisk> Noted<D, M> {
             (next : Whole) × (least_next : List Row) × IsNotedAt M.seen M.may_leave self.new history.new next least_next
             × Adds history.old history.new (λ more. GoesToEnd (session_rules self.old.store.control.grain read) (agenda_of self.old.store.control.grain self.old.script) w more next)) }
         ensures halted { IfErr result (λ stop. (read : Reading) (w : Whole) (least : List Row) → IsNotedAt M.seen M.may_leave self.old history.old w least →
-            Halts M.seen M.may_leave self.old.store.control.grain read stop (agenda_of self.old.store.control.grain self.old.script) self.new w history.old history.new) }
+            Halts M.seen M.may_leave M.fault_count M.calls self.old.store.control.grain read stop (agenda_of self.old.store.control.grain self.old.script) self.old self.new w history.old history.new) }
         ensures grain { OnOk result (self.new.store.control.grain ≡ self.old.store.control.grain) }
         ensures lanes { KeepLanes self.old.store self.new.store }
         ensures counted { KeepsCount M.seen M.fault_count M.calls result self.old self.new }

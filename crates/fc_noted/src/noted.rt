@@ -2,6 +2,7 @@
 
 ghost use Rattle.std.specs.Prelude.{◌≡◌, ◌≢◌, ◌<◌, ◌^◌, [], Err, IfErr, IfOk, List, Ok, OnErr, OnOk, length, map, replicate, true, vec_len};
 ghost use Rattle.std.specs.List.{All};
+ghost use Rattle.fc_base.specs.Count.{HasRisen};
 ghost use Rattle.fc_changed.specs.Row.{Row};
 ghost use Rattle.fc_entry.specs.HistoryState.{HistoryState};
 ghost use Rattle.fc_lanes.specs.Dealing.{Begin, all_dealt, pools_dealt};
@@ -120,6 +121,7 @@ impl<D: Mdisk, M: MetaDisk> Noted<D, M> {
         ensures counted { IfOk result (λ n. (n.calls ≡ 4) × (M.calls n.meta.disk ≡ more_calls 4 (M.calls disk)) × (M.fault_count n.meta.disk ≡ M.fault_count disk)
             × (room_of M.seen n.meta ≡ half_size (M.seen disk))) }
         ensures within { IfErr result (λ e. e.2 ≡ NotedStop.MetaFailed → IsCalledUpTo 4 (M.calls disk) (M.calls e.1)) }
+        ensures failed { IfErr result (λ e. e.2 ≡ NotedStop.MetaFailed → HasRisen (M.fault_count disk) (M.fault_count e.1)) }
         ensures back { IfErr result (λ e. e.0 ≡ store) }
         ensures not_log { IfErr result (λ e. e.2 ≢ NotedStop.LogFull) }
     {

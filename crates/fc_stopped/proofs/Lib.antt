@@ -1,6 +1,7 @@
 -- Lemmas, one subject a file.
 pub mod Lanes
 pub mod Apart
+pub mod Counting
 pub mod Counted
 pub mod Left
 pub mod Reading

@@ -1,4 +1,5 @@
 -- How lines are read here, what is written, and how a call ends.
+pub mod Countdown
 pub mod Reading
 pub mod Lines
 pub mod Text
