@@ -4,6 +4,7 @@ mod Acting
 mod Alone
 mod Beginning
 mod Begun
+mod Calling
 mod Copying
 pub mod Counting
 mod Data

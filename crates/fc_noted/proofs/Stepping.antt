@@ -47,7 +47,7 @@ module _ {C D : Type 0} (seen : D → List ℕ) (may_leave : D → List ℕ → 
         full = made.full;
         into = λ f w least at.
             let x = made.into f w least at in
-            record { request = x.request; asking = x.asking; reached = x.reached; asked = x.asked; meter = x.meter; metered = x.metered; into = x.into; goes = x.goes; calls = x.calls };
+            record { request = x.request; asking = x.asking; reached = x.reached; asked = x.asked; meter = x.meter; metered = x.metered; paid = x.paid; into = x.into; goes = x.goes; calls = x.calls };
       }
 
   pub step_ended : (result : Result Bool NotedStop) → is_err result ≡ true → StepMade seen may_leave moment left_since result old new before after →

@@ -22,4 +22,4 @@ returns-clause-lanes g c =
     (c.step-end.ensures.step.way (lane_in d.begun c.args.way.place) d.under)
 
 pub returns-clause-counted : goal.returns-clause-counted
-returns-clause-counted g c = no_calls g.M.MetaDisk.seen g.M.MetaDisk.fault_count g.M.MetaDisk.calls done c.args.self.now _ refl refl
+returns-clause-counted g c = no_calls g.M.MetaDisk.seen g.M.MetaDisk.fault_count g.M.MetaDisk.calls done c.args.self.now _ refl refl (λ told. absurd cc)

@@ -9,7 +9,7 @@ use Rattle.fc_marks.specs.declared.error.NotedStop.TheVariants.{NoMemory as Want
 use Rattle.fc_noted.proofs.Data.{seen_lane}
 use Rattle.fc_noted.proofs.Marked.{mark_failed, mark_made_by, mark_refused, wants_is}
 use Rattle.fc_noted.proofs.KeepingLanes.{lanes_stay, lanes_still}
-use Rattle.fc_noted.proofs.MeteringNoted.{calls_of_error, no_calls, same_calls}
+use Rattle.fc_noted.proofs.MeteringNoted.{calls_of_error, memory_alone, no_calls, same_calls}
 use Rattle.fc_noted.specs.Making.{WayMade, done}
 use Rattle.fc_noted.proofs.noted.Noted.own.Goals as goal
 
@@ -51,13 +51,15 @@ pub returns-clause-lanes : goal.returns-clause-lanes
 returns-clause-lanes g c = lanes_still c.args.self.now.store c.put.new.self.store (ap (λ n. n.store) c.in_ok-put.ensures.others)
 
 pub returns-in_err-remember-clause-counted : goal.returns-in_err-remember-clause-counted
-returns-in_err-remember-clause-counted g c = no_calls g.M.MetaDisk.seen g.M.MetaDisk.fault_count g.M.MetaDisk.calls c.from_residual.result c.args.self.now _ refl refl
+returns-in_err-remember-clause-counted g c =
+    let p = err_from_is_err_and c.from_residual.result c.from_residual.ensures.1 in
+    no_calls g.M.MetaDisk.seen g.M.MetaDisk.fault_count g.M.MetaDisk.calls c.from_residual.result c.args.self.now _ refl refl (memory_alone c.from_residual.result (rw (p.1, p.2) refl))
 
 pub returns-in_err-put-clause-counted : goal.returns-in_err-put-clause-counted
 returns-in_err-put-clause-counted g c =
     let p = err_from_is_err_and c.from_residual-in_err-put.result c.from_residual-in_err-put.ensures.1 in
-    calls_of_error g.M.MetaDisk.seen g.M.MetaDisk.fault_count g.M.MetaDisk.calls c.from_residual-in_err-put.result p.0 c.in_err-put.field-0.0 c.args.self.now _ c.put.new.self c.put.new.self p.1 refl refl refl refl c.in_err-put.ensures.counted
+    calls_of_error g.M.MetaDisk.seen g.M.MetaDisk.fault_count g.M.MetaDisk.calls c.from_residual-in_err-put.result p.0 c.in_err-put.field-0.0 c.args.self.now _ c.put.new.self c.put.new.self p.1 p.2 refl refl refl refl c.in_err-put.ensures.counted
 
 pub returns-clause-counted : goal.returns-clause-counted
 returns-clause-counted g c =
-    same_calls g.M.MetaDisk.seen g.M.MetaDisk.fault_count g.M.MetaDisk.calls done done c.args.self.now _ c.put.new.self _ refl refl refl refl (λ P ok. ok) c.in_ok-put.ensures.counted
+    same_calls g.M.MetaDisk.seen g.M.MetaDisk.fault_count g.M.MetaDisk.calls done done c.args.self.now _ c.put.new.self _ refl refl refl refl (λ P ok. ok) (λ told. told) c.in_ok-put.ensures.counted

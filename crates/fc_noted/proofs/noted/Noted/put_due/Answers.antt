@@ -33,8 +33,8 @@ returns-clause-lanes g c = lanes_still c.args.self.now.store c.put.new.self.stor
 pub returns-in_err-put-clause-counted : goal.returns-in_err-put-clause-counted
 returns-in_err-put-clause-counted g c =
     let p = err_from_is_err_and c.from_residual.result c.from_residual.ensures.1 in
-    calls_of_error g.M.MetaDisk.seen g.M.MetaDisk.fault_count g.M.MetaDisk.calls c.from_residual.result p.0 c.in_err-put.field-0.0 c.args.self.now c.args.self.now c.put.new.self c.put.new.self p.1 refl refl refl refl c.in_err-put.ensures.counted
+    calls_of_error g.M.MetaDisk.seen g.M.MetaDisk.fault_count g.M.MetaDisk.calls c.from_residual.result p.0 c.in_err-put.field-0.0 c.args.self.now c.args.self.now c.put.new.self c.put.new.self p.1 p.2 refl refl refl refl c.in_err-put.ensures.counted
 
 pub returns-clause-counted : goal.returns-clause-counted
 returns-clause-counted g c =
-    same_calls g.M.MetaDisk.seen g.M.MetaDisk.fault_count g.M.MetaDisk.calls done done c.args.self.now c.args.self.now c.put.new.self _ refl refl refl refl (λ P ok. ok) c.in_ok-put.ensures.counted
+    same_calls g.M.MetaDisk.seen g.M.MetaDisk.fault_count g.M.MetaDisk.calls done done c.args.self.now c.args.self.now c.put.new.self _ refl refl refl refl (λ P ok. ok) (λ told. told) c.in_ok-put.ensures.counted
