@@ -20,7 +20,7 @@ use Rattle.fc_legal.specs.Agenda.{Asks}
 use Rattle.fc_legal.specs.Seconds.{Work, filled_by, next_grain}
 use Rattle.fc_legal.specs.Whole.{Whole}
 use Rattle.fc_marks.specs.Stops.{stop_of_log}
-use Rattle.fc_marks.specs.declared.error.NotedStop.TheVariants.{LogFull}
+use Rattle.fc_marks.specs.declared.error.NotedStop.TheVariants.{LogFull, MetaFailed}
 use Rattle.fc_parts.specs.Law.{IsInVolume}
 use Rattle.fc_rules.specs.LaneTold.{LaneOf, LaneTold, place_of}
 use Rattle.fc_script.specs.Asking.{HasNextFill}
@@ -36,6 +36,11 @@ use Rattle.fc_store.specs.Stepping.{lane_in, no_lane}
 pub full_only : (stop : Stop) (history : HistoryState) → IsStopped stop history → stop_of_log stop ≡ LogFull → 262144 ≤ length history.entries
 full_only Full history full is = full
 full_only NoRoom history full is = absurd cc
+
+-- and no disk failed then
+pub not_failed : (stop : Stop) → stop_of_log stop ≡ MetaFailed → ⊥
+not_failed Full is = cc
+not_failed NoRoom is = cc
 
 -- the work of a fill
 map_in : MapId → Asked → MapId

@@ -37,10 +37,12 @@ mod Stepping
 mod Still
 mod Telling
 mod Tidying
+mod CallsMade
 mod Commanding
 mod CommandLanes
 mod Planned
 mod CommandStops
+mod CommandCosts
 mod CommandLeads
 mod CommandLogs
 mod CommandEntry

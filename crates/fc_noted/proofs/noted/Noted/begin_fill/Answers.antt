@@ -13,7 +13,7 @@ use Rattle.fc_legal.specs.Agenda.{Asks}
 use Rattle.fc_legal.specs.Whole.{Whole}
 use Rattle.fc_marks.specs.Stops.{stop_of_log}
 use Rattle.fc_noted.proofs.Begun.{begun_made, stopped_made}
-use Rattle.fc_noted.proofs.Filling.{fill_can, fill_in_volume, fill_of_lane, fill_request, full_only, worker_of}
+use Rattle.fc_noted.proofs.Filling.{fill_can, fill_in_volume, fill_of_lane, fill_request, full_only, not_failed, worker_of}
 use Rattle.fc_noted.proofs.KeepingLanes.{begun_keeps, lanes_go_on, lanes_hold}
 use Rattle.fc_noted.specs.Making.{KeepLanes, StepMade}
 use Rattle.fc_script.specs.Asking.{HasNextFill, work_of}
@@ -31,7 +31,7 @@ returns-in_err-place-clause-made g c =
     rw (p.1, p.2) (
     stopped_made g.M.MetaDisk.seen g.M.MetaDisk.may_leave g.M.MetaDisk.moment g.M.MetaDisk.left_since g.met.M.MetaDisk.only_now c.args.self.now c.args.history.now c.ready_lane.new.self
     c.ready_lane.ensures.kept.control c.ready_lane.ensures.kept.grains c.ready_lane.ensures.kept.stands c.requires.at.2.idle c.requires.live c.requires.room
-    (stop_of_log c.in_err-place.field-0.0) (full_only c.in_err-place.field-0.0 c.args.history.now c.in_err-place.ensures.stopped)
+    (stop_of_log c.in_err-place.field-0.0) (full_only c.in_err-place.field-0.0 c.args.history.now c.in_err-place.ensures.stopped) (not_failed c.in_err-place.field-0.0)
     )
 
 pub begin_fill-doing-requires-clause-there : goal.begin_fill-doing-requires-clause-there

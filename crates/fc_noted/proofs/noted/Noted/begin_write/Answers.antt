@@ -12,9 +12,9 @@ use Rattle.fc_legal.specs.Agenda.{Asks}
 use Rattle.fc_legal.specs.Steps.{after_access}
 use Rattle.fc_legal.specs.Whole.{Whole, lane_of_grain}
 use Rattle.fc_marks.specs.Stops.{stop_of_log}
-use Rattle.fc_noted.proofs.Accessing.{access_by, access_can, access_in_volume, answered_turn, begins_within, ends_within, in_grain, no_effects, number_small, touches_there}
+use Rattle.fc_noted.proofs.Accessing.{access_by, access_can, access_in_volume, answered_turn, begins_within, ends_within, in_grain, no_effects, not_every, number_small, touches_there}
 use Rattle.fc_noted.proofs.Begun.{begun_made, stopped_made}
-use Rattle.fc_noted.proofs.Filling.{full_only}
+use Rattle.fc_noted.proofs.Filling.{full_only, not_failed}
 use Rattle.fc_noted.proofs.Holding.{one_same}
 use Rattle.fc_noted.proofs.Idle.{idle_made}
 use Rattle.fc_noted.proofs.KeepingLanes.{begun_keeps, holds_in_lane, lanes_go_on, lanes_hold, lanes_still}
@@ -38,7 +38,7 @@ returns-in_err-place-clause-made g c =
     rw (p.1, p.2) (
     stopped_made g.M.MetaDisk.seen g.M.MetaDisk.may_leave g.M.MetaDisk.moment g.M.MetaDisk.left_since g.met.M.MetaDisk.only_now c.args.self.now c.args.history.now c.ready_lane.new.self
     c.ready_lane.ensures.kept.control c.ready_lane.ensures.kept.grains c.ready_lane.ensures.kept.stands c.requires.at.2.idle c.requires.live c.requires.room
-    (stop_of_log c.in_err-place.field-0.0) (full_only c.in_err-place.field-0.0 c.args.history.now c.in_err-place.ensures.stopped)
+    (stop_of_log c.in_err-place.field-0.0) (full_only c.in_err-place.field-0.0 c.args.history.now c.in_err-place.ensures.stopped) (not_failed c.in_err-place.field-0.0)
     )
 
 pub blocks_in-first-requires-clause-begins : goal.blocks_in-first-requires-clause-begins
@@ -138,6 +138,8 @@ returns-in-Answered-clause-made g c =
       nothing = nothing;
       unwritten = unwritten;
       no_effects = no_effects c.ready_lane.new.self at.0 (kept.stands at.0 at.2.told.0) c.args.grain place c.in_ok-place.ensures.ready c.args.volume c.args.block c.args.count c.blocks_in-first.result.0 c.blocks_in-first.result.1
+          touches within (Write c.args.byte) c.len.result entry store begun.0 is (omega (arith, nothing.calls)) (at.2.told.1.entries ∙ sym c.len.ensures);
+      not_every = not_every c.ready_lane.new.self at.0 (kept.stands at.0 at.2.told.0) c.args.grain place c.in_ok-place.ensures.ready c.args.volume c.args.block c.args.count c.blocks_in-first.result.0 c.blocks_in-first.result.1
           touches within (Write c.args.byte) c.len.result entry store begun.0 is (omega (arith, nothing.calls)) (at.2.told.1.entries ∙ sym c.len.ensures);
       turns = λ w least h.
           (lane_of_grain w c.args.grain, subst (λ (z : ControlState). IsTurnBy z w) kept.control (answered_turn c.ready_lane.new.self w (kept.stands w h.told.0) c.args.grain place c.in_ok-place.ensures.ready c.args.volume c.args.block c.args.count c.blocks_in-first.result.0 c.blocks_in-first.result.1 touches within (Write c.args.byte) c.len.result entry store begun.0 is (omega (arith, nothing.calls)) (h.told.1.entries ∙ sym c.len.ensures)));

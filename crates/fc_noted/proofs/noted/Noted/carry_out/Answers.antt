@@ -100,12 +100,14 @@ pub returns-clause-stopped : goal.returns-clause-stopped
 returns-clause-stopped g c = λ history w least room at.
     done_stops g.M.MetaDisk.seen g.M.MetaDisk.may_leave c.commanded_law.ensures c.args.self.now c.settle.new.self c.args.command.now c.requires.next c.settle.ensures.grain c.settle.ensures.lanes c.settle.ensures.others
     history w least room at c.in_ok-settling.settling c.in_ok-settling.ensures.settled c.requires.decided c.in_ok-decision.decision c.in_ok-decision.ensures c.act.new.self c.act.ensures.others c.in_ok-act.ensures.done
+    c.act.ensures.counted.size
     (subst (λ (b : Bool). AnewOr g.M.MetaDisk.seen g.M.MetaDisk.may_leave (b || is_some (removed_by c.in_ok-decision.decision.events)) c.in_ok-decision.decision c.settle.new.self c.act.new.self) c.have_effect.ensures c.in_ok-act.ensures.anew)
 
 pub returns-clause-leads : goal.returns-clause-leads
 returns-clause-leads g c = λ entry is history room w least at.
     done_leads g.M.MetaDisk.seen g.M.MetaDisk.may_leave c.commanded_law.ensures c.args.self.now c.settle.new.self c.args.command.now c.requires.next c.settle.ensures.grain c.settle.ensures.lanes c.settle.ensures.others
     history w least room at c.in_ok-settling.settling c.in_ok-settling.ensures.settled c.requires.decided c.in_ok-decision.decision c.in_ok-decision.ensures c.act.new.self c.act.ensures.others c.in_ok-act.ensures.done
+    c.act.ensures.counted.size
     (subst (λ (b : Bool). AnewOr g.M.MetaDisk.seen g.M.MetaDisk.may_leave (b || is_some (removed_by c.in_ok-decision.decision.events)) c.in_ok-decision.decision c.settle.new.self c.act.new.self) c.have_effect.ensures c.in_ok-act.ensures.anew)
     entry (is c.in_ok-settling.settling.effects c.in_ok-joined.ensures)
 

@@ -15,7 +15,7 @@ returns-in_err-entry-clause-made g c =
     let p = err_from_is_err_and c.from_residual.result c.from_residual.ensures.1 in
     rw (p.1, p.2) (
     undone_made g.M.MetaDisk.seen g.M.MetaDisk.may_leave g.M.MetaDisk.moment g.M.MetaDisk.left_since c.args.self.now c.command_entry.new.self c.args.history.now c.requires.at.2.idle c.if-is_full.ensures.room
-    c.command_entry.ensures.any_moment c.command_entry.ensures.stopped c.in_err-entry.field-0.0 (λ e. c.in_err-entry.ensures.not_log (ap (λ (z : NotedStop). Err z) e))
+    c.command_entry.ensures.any_moment c.command_entry.ensures.stopped c.in_err-entry.field-0.0 (λ e. c.in_err-entry.ensures.not_log (ap (λ (z : NotedStop). Err z) e)) (λ e. c.in_err-entry.ensures.into (ap (λ (z : NotedStop). Err z) e))
     )
 
 pub log_entry-requires-clause-stands : goal.log_entry-requires-clause-stands

@@ -38,6 +38,7 @@ returns-in-Ok-open-clause-noted g c = λ disks begun.
       script = Over;
       under_way = None;
       live = true;
+      calls = 4;
     } in
     begins g.M.MetaDisk.seen g.M.MetaDisk.may_leave 4 disks n
     record {
@@ -53,6 +54,8 @@ returns-in-Ok-open-clause-noted g c = λ disks begun.
       unmarked = c.new.ensures.items;
       over = refl;
       idle = refl;
+      used = c.in-Ok-open.ensures.used;
+      called = omega arith;
     }
 
 pub returns-clause-any_moment : goal.returns-clause-any_moment

@@ -12,7 +12,7 @@ use Rattle.fc_legal.specs.Whole.{Whole, lane_of_grain}
 use Rattle.fc_marks.specs.Stops.{stop_of_log}
 use Rattle.fc_noted.proofs.Accessing.{access_by, access_can, begins_within, ends_within, in_grain, number_small, touches_there}
 use Rattle.fc_noted.proofs.Begun.{stopped_made}
-use Rattle.fc_noted.proofs.Filling.{full_only}
+use Rattle.fc_noted.proofs.Filling.{full_only, not_failed}
 use Rattle.fc_noted.proofs.KeepingLanes.{lanes_go_on, lanes_hold, lanes_still, stays_in_lane}
 use Rattle.fc_noted.proofs.Reading.{read_made, read_turn}
 use Rattle.fc_noted.specs.Making.{StepMade, always}
@@ -29,7 +29,7 @@ returns-in_err-place-clause-made g c =
     rw (p.1, p.2) (
     stopped_made g.M.MetaDisk.seen g.M.MetaDisk.may_leave g.M.MetaDisk.moment g.M.MetaDisk.left_since g.met.M.MetaDisk.only_now c.args.self.now c.args.history.now c.ready_lane.new.self
     c.ready_lane.ensures.kept.control c.ready_lane.ensures.kept.grains c.ready_lane.ensures.kept.stands c.requires.at.2.idle c.requires.live c.requires.room
-    (stop_of_log c.in_err-place.field-0.0) (full_only c.in_err-place.field-0.0 c.args.history.now c.in_err-place.ensures.stopped)
+    (stop_of_log c.in_err-place.field-0.0) (full_only c.in_err-place.field-0.0 c.args.history.now c.in_err-place.ensures.stopped) (not_failed c.in_err-place.field-0.0)
     )
 
 pub blocks_in-first-requires-clause-begins : goal.blocks_in-first-requires-clause-begins

@@ -1,7 +1,7 @@
 -- A refusal is right, and its entry is logged.
-use Rattle.std.proofs.Common.{ap, refl, subst, sym}
+use Rattle.std.proofs.Common.{◌≡◌, ap, refl, subst, sym}
 use Rattle.fc_entry.specs.declared.entry.Entry.{Entry}
-use Rattle.fc_marks.specs.declared.error.NotedStop.TheVariants.{LogFull}
+use Rattle.fc_marks.specs.declared.error.NotedStop.TheVariants.{LogFull, MetaFailed}
 use Rattle.fc_noted.proofs.Begun.{stopped_made}
 use Rattle.fc_noted.proofs.KeepingLanes.{lanes_stay, lanes_still}
 use Rattle.fc_noted.proofs.Refusing.{refused_made}
@@ -11,7 +11,7 @@ use Rattle.fc_noted.proofs.noted.Noted.refuse.Goals as goal
 pub returns-then-is_full-clause-made : goal.returns-then-is_full-clause-made
 returns-then-is_full-clause-made g c =
     stopped_made g.M.MetaDisk.seen g.M.MetaDisk.may_leave g.M.MetaDisk.moment g.M.MetaDisk.left_since g.met.M.MetaDisk.only_now c.args.self.now c.args.history.now c.args.self.now.store refl refl (λ w up. up)
-    c.requires.at.2.idle c.requires.live c.requires.room LogFull (λ e. c.if-is_full.ensures.full)
+    c.requires.at.2.idle c.requires.live c.requires.room LogFull (λ e. c.if-is_full.ensures.full) (λ e. let q : LogFull ≡ MetaFailed = e in cc)
 
 pub log_entry-requires-clause-stands : goal.log_entry-requires-clause-stands
 log_entry-requires-clause-stands g c = (c.requires.at.0, c.requires.at.2.told.0)
