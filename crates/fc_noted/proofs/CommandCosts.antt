@@ -85,6 +85,7 @@ counts_into seen may_leave old new history w least at command asks acts called =
       asked = asks;
       meter = m;
       metered = at.counts.metered;
+      paid = let e = at.counts.calls in omega (arith, e);
       into = with_fold m.image m;
       goes = anew command m.image acts;
       calls = calls_more 6 m.calls old.calls new.calls at.counts.calls called;

@@ -1,6 +1,6 @@
 -- A copy or a cleaning that is next can begin in the lane of its grain.
 use Rattle.std.proofs.Common.{◌≡◌, ℕ, ◌%◌, ◌<◌, ◌≤◌, Bool, true, false, cond, Option, Some, None, List, length, slice_index_or, refl, sym, ap, subst, ◌∙◌}
-use Rattle.std.specs.Prelude.{IsSome}
+use Rattle.std.specs.Prelude.{Err, IsErrOf, IsSome}
 use Rattle.std.proofs.lemmas.List.{get_or_default}
 use Rattle.fc_base.specs.declared.ids.GrainNo.{GrainNo}
 use Rattle.fc_base.specs.declared.ids.MapId.{MapId}
@@ -41,6 +41,10 @@ full_only NoRoom history full is = absurd cc
 pub not_failed : (stop : Stop) → stop_of_log stop ≡ MetaFailed → ⊥
 not_failed Full is = cc
 not_failed NoRoom is = cc
+
+pub no_disk_failed : {T : Type 0} (stop : Stop) → IsErrOf {T = T} (Err (stop_of_log stop)) MetaFailed → ⊥
+no_disk_failed Full e = cc
+no_disk_failed NoRoom e = cc
 
 -- the work of a fill
 map_in : MapId → Asked → MapId

@@ -141,6 +141,7 @@ module _ {C D : Type 0} (seen : D → List ℕ) (may_leave : D → List ℕ → 
             asked = i.asked;
             meter = i.meter;
             metered = i.metered;
+            paid = i.paid;
             into = i.into;
             goes = i.goes;
             calls = i.calls;

@@ -33,7 +33,7 @@ use Rattle.fc_lanes.specs.Dealing.{Begin, all_dealt, dealt, pools_dealt}
 use Rattle.fc_lanes.proofs.Dealing.{few_dealt}
 use Rattle.fc_legal.specs.Whole.{Whole, opened, pool_at}
 use Rattle.fc_marks.specs.Stops.{stop_of_meta}
-use Rattle.fc_marks.specs.declared.error.NotedStop.TheVariants.{LogFull}
+use Rattle.fc_marks.specs.declared.error.NotedStop.TheVariants.{LogFull, MetaFailed}
 use Rattle.fc_mdisk.specs.Disk.{DiskState, IsFresh, is_flat}
 use Rattle.fc_meta.proofs.Moments.{weaker}
 use Rattle.fc_meta.specs.Answers.{LeavesEither, more_calls}
@@ -323,6 +323,11 @@ pub not_log : (e : MetaError) → stop_of_meta e ≡ LogFull → ⊥
 not_log Failed is = cc
 not_log NoMemory is = cc
 not_log Full is = cc
+
+pub was_failed : (e : MetaError) → stop_of_meta e ≡ MetaFailed → e ≡ Failed
+was_failed Failed is = refl
+was_failed NoMemory is = absurd cc
+was_failed Full is = absurd cc
 
 -- ---- with another script
 

@@ -131,6 +131,7 @@ impl<D: Mdisk, M: MetaDisk> Noted<D, M> {
         ensures grain { self.new.store.control.grain ≡ self.old.store.control.grain }
         ensures lanes { EachLane IsSameLane self.old.store.lanes self.new.store.lanes }
         ensures not_log { IsErrOf result NotedStop.LogFull → ⊥ }
+        ensures not_failed { IsErrOf result NotedStop.MetaFailed → ⊥ }
         ensures others { self.new ≡ record self.old { store = self.new.store } }
     {
         let settling = self.store.plan_settling()?;
