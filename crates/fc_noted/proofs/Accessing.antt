@@ -1,9 +1,11 @@
 -- An access that is next can be made in the lane of its grain.
-use Rattle.std.proofs.Common.{◌≡◌, ℕ, ◌+◌, ◌-◌, ◌*◌, ◌^◌, ◌<◌, Contains, [], slice_index_or, refl, sym, subst}
+use Rattle.std.proofs.Common.{◌≡◌, ◌≢◌, ℕ, ◌+◌, ◌-◌, ◌*◌, ◌^◌, ◌<◌, Contains, [], slice_index_or, refl, sym, subst, ◌∙◌}
 use Rattle.std.proofs.lemmas.List.{get_or_default}
 use Rattle.fc_base.specs.Grain.{grain_blocks}
 use Rattle.fc_base.specs.Tables.{Tables}
 use Rattle.fc_base.specs.declared.ids.VolId.{VolId}
+use Rattle.fc_base.specs.declared.request.Place.TheVariants.{Every, Lane}
+use Rattle.fc_base.specs.declared.request.Place.{Place}
 use Rattle.fc_base.specs.declared.size.GrainSize.{GrainSize}
 use Rattle.fc_desk.specs.Control.{ControlState}
 use Rattle.fc_entry.specs.Picture.{grain_of_block}
@@ -26,6 +28,10 @@ use Rattle.fc_stands.proofs.Turns.{IsTurn}
 use Rattle.fc_stands.specs.Store.{StandsFor, StoreView}
 use Rattle.fc_store.specs.Ready.{IsReadyAt}
 use Rattle.fc_store.specs.Stepping.{IsInLane, lane_in, no_lane}
+
+-- what is in a lane isn't in every one
+pub in_lane : (place : Place) (i : ℕ) → place ≡ Lane i → place ≢ Every
+in_lane place i e every = let q : Lane i ≡ Every = sym e ∙ every in cc
 
 -- the grain that blocks touch, by a control part that is the same
 pub touches_there : (old now : ControlState) (volume : VolId) (block count g : ℕ) → now ≡ old → TouchesGrain old.grain old.tables volume block count g → TouchesGrain now.grain now.tables volume block count g
@@ -79,3 +85,6 @@ module _ (s : StoreView) (w : Whole) (stands : StandsFor s w) (g place : ℕ) (r
 
     pub no_effects : entry.effects ≡ []
     no_effects = let can = access_can volume block count first many t within in (followed.right can.0 can.1 can.2).0.no_effects
+
+    pub not_every : entry.place ≢ Every
+    not_every = let can = access_can volume block count first many t within in in_lane entry.place (lane_in s place).lane (followed.right can.0 can.1 can.2).0.place

@@ -1,5 +1,5 @@
 -- An entry begins in its lane, and is under way.
-use Rattle.std.proofs.Common.{◌≡◌, ℕ, ◌<◌, ◌≤◌, Bool, true, Option, Some, None, List, length, Ok, Err, refl, sym, ap, subst, ◌∙◌, inl, arith}
+use Rattle.std.proofs.Common.{◌≡◌, ℕ, ◌<◌, ◌≤◌, Bool, true, Option, Some, None, List, [], length, Ok, Err, refl, sym, ap, subst, ◌∙◌, inl, arith}
 use Rattle.std.specs.Prelude.{IsErrOf}
 use Rattle.fc_agenda.specs.Goes.{stays}
 use Rattle.fc_base.specs.declared.size.GrainSize.{GrainSize}
@@ -13,11 +13,18 @@ use Rattle.fc_lane.specs.Lane.{LaneView, of}
 use Rattle.fc_lane.specs.declared.doing.Doing.{Doing}
 use Rattle.fc_legal.specs.Agenda.{Asks}
 use Rattle.fc_legal.specs.Whole.{Whole, lane_at, lanes}
-use Rattle.fc_marks.specs.declared.error.NotedStop.TheVariants.{LogFull}
+use Rattle.fc_image.specs.declared.image.MetaImage.{MetaImage}
+use Rattle.fc_kept.specs.Images.{kept_in}
+use Rattle.fc_kept.specs.Kept.{Kept}
+use Rattle.fc_marks.specs.declared.error.NotedStop.TheVariants.{LogFull, MetaFailed}
+use Rattle.fc_meta.specs.States.{found}
+use Rattle.fc_noted.specs.Metered.{Acted}
 use Rattle.fc_marks.specs.declared.error.NotedStop.{NotedStop}
 use Rattle.fc_noted.proofs.Beginning.{begun_steps, begun_steps_are}
+use Rattle.fc_noted.proofs.CallsMade.{counts_still, one_image}
 use Rattle.fc_noted.proofs.Counting.{has_counted}
 use Rattle.fc_noted.proofs.Holding.{HoldSame, have_same, match_same, one_same}
+use Rattle.fc_noted.proofs.Metering.{begun_so}
 use Rattle.fc_noted.proofs.Moments.{doing_found, hold_either, resting_found, still_leaves}
 use Rattle.fc_noted.specs.Making.{StepMade}
 use Rattle.fc_noted.specs.Noted.{IsAt, IsAtBy, IsDoing, IsNotedAt}
@@ -34,6 +41,7 @@ use Rattle.fc_steps.specs.declared.ask.Ask.{Ask}
 use Rattle.fc_steps.specs.declared.stepping.Steps.{Steps}
 use Rattle.fc_store.specs.Stepping.{IsInLane, lane_in, no_lane}
 use Rattle.law_noted.proofs.HandOn.{begins, first}
+use Rattle.law_noted.specs.Came.{steps_done}
 use Rattle.law_noted.specs.DataSteps.{IsInHand}
 use Rattle.law_noted.specs.Runs.{HasRun}
 
@@ -65,6 +73,7 @@ module _ {C D : Type 0} (seen : D → List ℕ) (may_leave : D → List ℕ → 
           volumes = have_same n.disks n.store store control same k.volumes;
           matches = subst (λ (g : GrainSize). MatchAll g n.named at.point.kept store.lanes at.point.disks) (sym there) (match_same n.store.lanes store.lanes same grain n.named at.point.kept at.point.disks k.matches);
         };
+        counts = counts_still seen may_leave n (record n { store = store }) history.entries w control refl refl at.counts;
       }
 
   -- what a step meets between two entries
@@ -123,6 +132,11 @@ module _ {C D : Type 0} (seen : D → List ℕ) (may_leave : D → List ℕ → 
           (begins grain history.entries w least at.point (request_of doing.steps.ask) steps at.run (omega (arith, few)) in_volume_here are) at.run.have below lane_is lane_at_place.stands.lane
           (subst (λ (a : Ask). HasBegun lane number 0 a doing (lane_in store place)) (sym ask_is) begun)
 
+      -- no action was done yet
+      none_acted : Acted grain (request_of doing.steps.ask) steps (steps_done doing.steps) doing.steps.stop None at.point.kept.rows at.point.kept.rows []
+      none_acted =
+          subst (λ (s : Steps). Acted grain (request_of s.ask) steps (steps_done s) s.stop None at.point.kept.rows at.point.kept.rows []) (sym begun.steps_are) (begun_so grain (request_of ask) steps at.point.kept.rows)
+
       pub begun_doing : IsDoing seen may_leave new way history w least
       begun_doing =
           let k = at.keeps in
@@ -156,6 +170,18 @@ module _ {C D : Type 0} (seen : D → List ℕ) (may_leave : D → List ℕ → 
               volumes = have_same n.disks n.store store (ap (λ (s : StoreView). s.control) is) holds k.volumes;
               matches = match_same n.store.lanes store.lanes holds grain n.named at.point.kept at.point.disks k.matches;
             };
+            counts =
+                let c = at.counts in
+                let same : c.meter.image ≡ k.image = one_image (found seen n.meta) c.meter.image k.image c.is.image k.says in
+                record {
+                  before = c.meter;
+                  metered = c.metered;
+                  same = ap (λ (i : MetaImage). (kept_in i).rows) same ∙ ap (λ (z : Kept). z.rows) k.kept;
+                  actions = [];
+                  acted = none_acted;
+                  is = c.is;
+                  calls = c.calls;
+                };
           }
 
 -- what that makes of a noted store in which room was made
@@ -185,8 +211,8 @@ module _ {C D : Type 0} (seen : D → List ℕ) (may_leave : D → List ℕ → 
 
   -- ---- it stopped there
 
-  pub stopped_made : (stop : NotedStop) → (stop ≡ LogFull → 262144 ≤ length history.entries) → StepMade seen may_leave moment left_since (Err stop) old (record old { store = roomy }) history history
-  stopped_made stop full =
+  pub stopped_made : (stop : NotedStop) → (stop ≡ LogFull → 262144 ≤ length history.entries) → (stop ≡ MetaFailed → ⊥) → StepMade seen may_leave moment left_since (Err stop) old (record old { store = roomy }) history history
+  stopped_made stop full never =
       record {
         on = tt;
         any_moment = λ w least at.
@@ -204,11 +230,12 @@ module _ {C D : Type 0} (seen : D → List ℕ) (may_leave : D → List ℕ → 
                 leaves = λ c may. (k.image, ap recovered (k.rests.durable c may) ∙ k.says, found_roomy w least at);
               },
             );
-        full = λ e. full (err_is stop e);
+        full = λ e. full (err_is stop LogFull e);
+        into = λ e. absurd (never (err_is stop MetaFailed e));
       }
     where
-      err_is : (s : NotedStop) → IsErrOf {T = Bool} (Err s) LogFull → s ≡ LogFull
-      err_is s e = cc
+      err_is : (s other : NotedStop) → IsErrOf {T = Bool} (Err s) other → s ≡ other
+      err_is s other e = cc
 
   -- ---- an entry is under way
 
@@ -238,4 +265,5 @@ module _ {C D : Type 0} (seen : D → List ℕ) (may_leave : D → List ℕ → 
               (doing_found seen may_leave behind (record { place = place; doing = doing; due = None }) history w least (doing_at w least at)));
           stopped = tt;
           full = λ f. absurd cc;
+          into = λ f. absurd cc;
         }

@@ -17,10 +17,13 @@ use Rattle.fc_legal.specs.Whole.{Whole, part_of_rows, lane_at}
 use Rattle.fc_metadisk.specs.Disk.{LeavesOnly}
 use Rattle.fc_noted.proofs.GoingAlong.{matches_along}
 use Rattle.fc_noted.proofs.InHand.{in_hand, now_inside}
+use Rattle.fc_noted.proofs.MeteringHand.{data_so}
+use Rattle.fc_noted.proofs.MeteringNoted.{so_far_same}
 use Rattle.fc_noted.proofs.Moments.{doing_found, hold_either, still_leaves}
 use Rattle.fc_noted.proofs.Stepping.{way_goes}
 use Rattle.fc_noted.specs.Making.{CopiesNext, IsMarkedBy, IsMarkedNext, WayMade, done}
-use Rattle.fc_noted.specs.Noted.{IsDoing, Keeps}
+use Rattle.fc_noted.specs.Metered.{Acted}
+use Rattle.fc_noted.specs.Noted.{CountsSoFar, IsDoing, Keeps}
 use Rattle.fc_noted.specs.Stopping.{LeavesRecoverable}
 use Rattle.fc_noted.specs.declared.noted.Noted.{Noted}
 use Rattle.fc_noted.specs.declared.noted.UnderWay.{UnderWay}
@@ -42,7 +45,8 @@ use Rattle.law_crash.specs.Doing.{with_disks}
 use Rattle.law_noted.proofs.DataInHand.{same_new, same_old}
 use Rattle.law_noted.proofs.DataWhole.{data_law_holds}
 use Rattle.law_noted.proofs.HandOn.{is_wanted}
-use Rattle.law_noted.specs.DataSteps.{GoAlong, IsInHand, IsStepped, NeedsNoMark}
+use Rattle.law_noted.specs.Came.{steps_done}
+use Rattle.law_noted.specs.DataSteps.{GoAlong, IsInHand, IsNextStep, IsStepped, NeedsNoMark}
 use Rattle.law_noted.specs.Records.{kept_by, record_after}
 
 -- ---- one lane of a store
@@ -87,6 +91,11 @@ module _ {C D : Type 0} (seen : D → List ℕ) (may_leave : D → List ℕ → 
 
   pub hand_none : IsInHand d.begun.control.grain w least way.place way.doing (lane_in d.begun way.place) (lane_in old.store way.place) d.steps d.before None d.point
   hand_none = subst (λ (o : Option MetaRecord). IsInHand grain w least way.place way.doing lane now d.steps d.before o d.point) none (in_hand seen may_leave old way history w least d)
+
+  -- what it costs so far
+  pub acted_none : Acted d.begun.control.grain (request_of way.doing.steps.ask) d.steps (steps_done way.doing.steps) way.doing.steps.stop None d.before.kept.rows d.point.kept.rows d.counts.actions
+  acted_none =
+      subst (λ (o : Option MetaRecord). Acted grain (request_of way.doing.steps.ask) d.steps (steps_done way.doing.steps) way.doing.steps.stop o d.before.kept.rows d.point.kept.rows d.counts.actions) none d.counts.acted
 
   inside : way.place < length old.store.lanes
   inside = now_inside seen may_leave old way history w least d
@@ -139,8 +148,8 @@ module _ {C D : Type 0} (seen : D → List ℕ) (may_leave : D → List ℕ → 
               (λ e. get_or_default old.store.lanes way.place e no_lane inside) along (stays.disks ∙ sym stay.disks) matches_none);
         }
 
-    doing_on : IsDoing seen may_leave new way_new history w least
-    doing_on =
+    doing_on : CountsSoFar seen may_leave grain new way_new history.entries w d.steps d.before.kept.rows d.point.kept.rows → IsDoing seen may_leave new way_new history w least
+    doing_on counts =
         record {
           begun = d.begun;
           few = d.few;
@@ -160,6 +169,7 @@ module _ {C D : Type 0} (seen : D → List ℕ) (may_leave : D → List ℕ → 
           point = with_disks disks d.point;
           came = h.came;
           keeps = kept_on;
+          counts = counts;
         }
 
   -- behind the next step of data
@@ -168,10 +178,13 @@ module _ {C D : Type 0} (seen : D → List ℕ) (may_leave : D → List ℕ → 
     due_next : Option MetaRecord
     due_next = record_after (next_of way.doing.steps) end way.doing.steps.grain
 
+    is_next : IsNextStep way.doing now end doing (lane_in store way.place)
+    is_next = record { way = step.way; after = step.after; moved = step.moved; wrote = step.wrote }
+
     stepped : IsStepped grain w least way.place doing lane now (lane_in store way.place) d.steps d.before (record_after (next_of way.doing.steps) end way.doing.steps.grain) d.point
     stepped =
         data_law_holds.steps grain w least way.place way.doing lane now d.steps d.before d.point end doing (lane_in store way.place) hand_none
-        (record { way = step.way; after = step.after; moved = step.moved; wrote = step.wrote }) next copies (needs_by (next_of way.doing.steps) marked)
+        is_next next copies (needs_by (next_of way.doing.steps) marked)
 
     ask_is : doing.steps.ask ≡ way.doing.steps.ask
     ask_is = ap (λ (x : Doing). x.steps.ask) step.after ∙ same_ask (next_of way.doing.steps) end way.doing.steps
@@ -179,10 +192,17 @@ module _ {C D : Type 0} (seen : D → List ℕ) (may_leave : D → List ℕ → 
     abbrev new_way : UnderWay
     new_way = record { place = way.place; doing = doing; due = record_after (next_of way.doing.steps) end way.doing.steps.grain }
 
+    counted : CountsSoFar seen may_leave d.begun.control.grain (record old { store = store; under_way = Some new_way }) new_way history.entries w d.steps d.before.kept.rows d.point.kept.rows
+    counted =
+        let so = data_so grain w least way.place way.doing lane now d.steps d.before d.point hand_none d.counts.actions acted_none end doing (lane_in store way.place) is_next next
+        (needs_by (next_of way.doing.steps) marked) stepped in
+        so_far_same seen may_leave grain old (record old { store = store; under_way = Some new_way }) way new_way history.entries w d.steps d.before.kept.rows d.point.kept.rows d.point.kept.rows d.counts
+        so.0 so.1 so.2 refl refl
+
     pub data_doing : IsDoing seen may_leave (record old { store = store; under_way = Some new_way }) new_way history w least
     data_doing =
         doing_on store doing (record_after (next_of way.doing.steps) end way.doing.steps.grain) stepped.disks is
-        (ap (λ (x : Doing). x.number) step.after) (ap (λ (x : Doing). x.actor) step.after) ask_is stepped.in_hand stepped.along
+        (ap (λ (x : Doing). x.number) step.after) (ap (λ (x : Doing). x.actor) step.after) ask_is stepped.in_hand stepped.along counted
 
 -- what a step of data makes of a noted store
 module _ {C D : Type 0} (seen : D → List ℕ) (may_leave : D → List ℕ → Type 0) (moment : D → ℕ) (left_since : D → ℕ → List ℕ → Type 0) (only_now : (disk : D) (c : List ℕ) → left_since disk (moment disk) c → may_leave disk c)

@@ -1,5 +1,6 @@
 -- An access that does nothing is logged: the history leads on with it to what stood.
-use Rattle.std.proofs.Common.{◌≡◌, ℕ, ◌<◌, ◌≤◌, true, None, List, [], ◌∷◌, ◌++◌, length, Result, OnOk, OnErr, IfErr, refl, sym, subst, arith}
+use Rattle.std.proofs.Common.{◌≡◌, ◌≢◌, ℕ, ◌<◌, ◌≤◌, true, None, List, [], ◌∷◌, ◌++◌, length, Result, OnOk, OnErr, IfErr, refl, sym, subst, arith}
+use Rattle.fc_base.specs.declared.request.Place.TheVariants.{Every}
 use Rattle.fc_base.specs.declared.request.Request.{Request}
 use Rattle.fc_changed.specs.Row.{Row}
 use Rattle.fc_entry.specs.HistoryState.{HistoryState}
@@ -40,6 +41,7 @@ module _ {C D : Type 0} (seen : D → List ℕ) (may_leave : D → List ℕ → 
     pub nothing : HasDoneNothing entry
     pub unwritten : done_write entry.request entry.reply ≡ None
     pub no_effects : entry.effects ≡ []
+    pub not_every : entry.place ≢ Every
     pub turns : (w : Whole) (least : List Row) → IsNotedAt seen may_leave old history w least → (i : ℕ) × IsTurn (StandsFor store) old.store.control.grain w request entry (after_access old.store.control.grain w i entry)
     pub asks : (w : Whole) → StandsFor old.store w → Asks old.store.control.grain (agenda_of old.store.control.grain old.script) w (0, request)
 
@@ -52,6 +54,6 @@ module _ {C D : Type 0} (seen : D → List ℕ) (may_leave : D → List ℕ → 
         leads = λ w least h.
             let t = e.turns w least h in
             access_leads (StandsFor store) old.store.control.grain w least h.point request entry t.0 t.1
-            (record { request_is = refl; written = e.unwritten; moves = e.nothing.moves; torn_is = e.nothing.untorn; no_effects = e.no_effects });
+            (record { request_is = refl; written = e.unwritten; moves = e.nothing.moves; torn_is = e.nothing.untorn; no_effects = e.no_effects }) e.not_every;
         asks = e.asks;
       })

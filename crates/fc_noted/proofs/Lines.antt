@@ -16,7 +16,11 @@ use Rattle.fc_legal.specs.Agenda.{Agenda, Asks, Reading, Session, line_read, ses
 use Rattle.fc_legal.specs.Whole.{Whole}
 use Rattle.fc_marks.specs.declared.error.NotedStop.TheVariants.{LogFull, NoMemory, MetaFailed, MetaFull}
 use Rattle.fc_marks.specs.declared.error.NotedStop.{NotedStop}
-use Rattle.fc_noted.specs.Stopping.{Halts, LineHalts}
+use Rattle.fc_marks.specs.Meter.{Meter}
+use Rattle.fc_meta.specs.Answers.{more_calls}
+use Rattle.fc_meta.specs.States.{disk_of}
+use Rattle.fc_meta.specs.declared.meta.Meta.{Meta}
+use Rattle.fc_noted.specs.Stopping.{Halts, LineHalts, Paid}
 use Rattle.fc_noted.specs.Noted.{CanStep, GoesOnTo, IsAt, IsAtBy, IsNotedAt, Logs, Stays}
 use Rattle.fc_noted.specs.declared.noted.Noted.{Noted}
 use Rattle.fc_noted.specs.declared.noted.UnderWay.{UnderWay}
@@ -221,14 +225,33 @@ module _ (grain : GrainSize) (read : Reading) (bytes : List ℕ) (w : Whole) (li
         are = record { end = adds.are.end; goes = line_goes adds.are.end adds.more last adds.are.goes; wanted = adds.are.wanted; asks = adds.are.asks };
       }
 
-  pub line_halts : {C D : Type 0} (may_leave : D → List ℕ → Type 0) (stop : NotedStop) (new : Noted C D) (before after : HistoryState) → Halts grain may_leave read stop a new w before after →
-      Halts grain may_leave read stop (Session (single bytes ∷ [])) new w before after
-  line_halts may_leave LogFull new before after h = (h.0, (h.1.0, h.1.1, h.1.2, line_asking before after h.1.0 h.1.3))
-  line_halts may_leave NoMemory new before after h = (h.0, h.1, h.2, h.3, line_up_to before after h.1 h.0 h.4)
-  line_halts may_leave MetaFailed new before after h = (h.0, h.1, h.2, h.3, line_up_to before after h.1 h.0 h.4)
-  line_halts may_leave MetaFull new before after h = (h.0, h.1, h.2, h.3, line_up_to before after h.1 h.0 h.4)
+  pub line_halts : {C D : Type 0} (seen : D → List ℕ) (may_leave : D → List ℕ → Type 0) (fault_count calls : D → ℕ) (stop : NotedStop) (old new : Noted C D) (before after : HistoryState) →
+      Halts seen may_leave fault_count calls grain read stop a old new w before after → Halts seen may_leave fault_count calls grain read stop (Session (single bytes ∷ [])) old new w before after
+  line_halts seen may_leave fault_count calls LogFull old new before after h = (h.0, (h.1.0, h.1.1, h.1.2, line_asking before after h.1.0 h.1.3))
+  line_halts seen may_leave fault_count calls NoMemory old new before after h = (h.0, h.1, h.2, h.3, h.4, line_up_to before after h.1 h.0 h.5)
+  line_halts seen may_leave fault_count calls MetaFailed old new before after h = (h.0, h.1, h.2, h.3, h.4, line_up_to before after h.1 h.0 h.5)
+  line_halts seen may_leave fault_count calls MetaFull old new before after h = (h.0, h.1, h.2, h.3, h.4, line_up_to before after h.1 h.0 h.5)
 
-module _ {C D : Type 0} (seen : D → List ℕ) (may_leave : D → List ℕ → Type 0) where
+module _ {C D : Type 0} (seen : D → List ℕ) (may_leave : D → List ℕ → Type 0) (fault_count calls : D → ℕ) where
+  -- By another noted store, whose metadata was called as often.
+  module _ (first begun : Noted C D) (count : begun.calls ≡ first.calls) (same : begun.meta ≡ first.meta) (new : Noted C D) where
+    paid_of : (grain : GrainSize) (next : Whole) (entries : List Entry) (meter : Meter) → Paid seen fault_count calls grain begun new next entries meter → Paid seen fault_count calls grain first new next entries meter
+    paid_of grain next entries meter p = record {
+      metered = p.metered;
+      unfailed = p.unfailed;
+      disk = p.disk;
+      called = p.called ∙ ap (λ (m : Meta D). more_calls p.unfailed (calls (disk_of m))) same;
+      quiet = p.quiet ∙ ap (λ (m : Meta D). fault_count (disk_of m)) same;
+      before = subst (λ (n : ℕ). more_calls meter.calls 0 ≤ more_calls p.unfailed n) count p.before;
+    }
+
+    halts_of : (grain : GrainSize) (read : Reading) (stop : NotedStop) (a : Agenda) (w : Whole) (before after : HistoryState) →
+        Halts seen may_leave fault_count calls grain read stop a begun new w before after → Halts seen may_leave fault_count calls grain read stop a first new w before after
+    halts_of grain read LogFull a w before after h = h
+    halts_of grain read NoMemory a w before after h = (h.0, h.1, h.2, h.3, (h.4.0, paid_of grain h.0 after.entries h.4.0 h.4.1, h.4.2), h.5)
+    halts_of grain read MetaFailed a w before after h = (h.0, h.1, h.2, h.3, (h.4.0, paid_of grain h.0 after.entries h.4.0 h.4.1, h.4.2), h.5)
+    halts_of grain read MetaFull a w before after h = (h.0, h.1, h.2, h.3, (h.4.0, paid_of grain h.0 after.entries h.4.0 h.4.1, h.4.2), h.5)
+
   -- It is answered to its end.
   abbrev pub LineEnds : Noted C D → HistoryState → Result Line WordFault → Noted C D → HistoryState → Type 0
   LineEnds first before line new after =
@@ -240,12 +263,12 @@ module _ {C D : Type 0} (seen : D → List ℕ) (may_leave : D → List ℕ → 
   abbrev pub AllHalt : Noted C D → HistoryState → NotedStop → Noted C D → HistoryState → Type 0
   AllHalt old before stop new after =
       (read : Reading) (w : Whole) (least : List Row) → IsNotedAt seen may_leave old before w least →
-      Halts old.store.control.grain may_leave read stop (agenda_of old.store.control.grain old.script) new w before after
+      Halts seen may_leave fault_count calls old.store.control.grain read stop (agenda_of old.store.control.grain old.script) old new w before after
 
   abbrev pub LineStops : Noted C D → HistoryState → Result Line WordFault → NotedStop → Noted C D → HistoryState → Type 0
   LineStops first before line stop new after =
       (read : Reading) (bytes : List ℕ) (w : Whole) (least : List Row) → read w.books bytes ≡ line → IsNotedAt seen may_leave first before w least →
-      LineHalts may_leave read stop first new bytes w before after
+      LineHalts seen may_leave fault_count calls read stop first new bytes w before after
 
   module _ (first begun : Noted C D) (before : HistoryState) (line : Result Line WordFault) (others : begun ≡ record first { script = begun.script })
       (goes : (w : Whole) → StandsFor first.store w → GoesOn first.store.control.grain w (line_read first.store.control.grain w line []) (agenda_of first.store.control.grain begun.script))
@@ -268,8 +291,9 @@ module _ {C D : Type 0} (seen : D → List ℕ) (may_leave : D → List ℕ → 
     pub line_stops : (stop : NotedStop) → AllHalt begun before stop new after → LineStops first before line stop new after
     line_stops stop halts read bytes w least is there =
         let grain : GrainSize = first.store.control.grain in
-        line_halts grain read bytes w line is (agenda_of grain begun.script) (goes w there.told.0) may_leave stop new before after
-        (subst (λ (g : GrainSize). Halts g may_leave read stop (agenda_of g begun.script) new w before after) same_grain (halts read w least (taken before w least there)))
+        line_halts grain read bytes w line is (agenda_of grain begun.script) (goes w there.told.0) seen may_leave fault_count calls stop first new before after
+        (halts_of first begun (ap (λ (n : Noted C D). n.calls) others) (ap (λ (n : Noted C D). n.meta) others) new grain read stop (agenda_of grain begun.script) w before after
+        (subst (λ (g : GrainSize). Halts seen may_leave fault_count calls g read stop (agenda_of g begun.script) begun new w before after) same_grain (halts read w least (taken before w least there))))
 
     -- whichever it was
     pub line_answered : (result : Result (Unit {0}) NotedStop) → OnOk result (AllMade seen may_leave begun before new after) → OnOk result (LineEnds first before line new after)

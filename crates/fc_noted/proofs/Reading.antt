@@ -24,7 +24,7 @@ use Rattle.fc_legal.specs.Steps.{LaneStep, RequestStep, after_access}
 use Rattle.fc_legal.specs.Whole.{Whole, as_one, lane_of_grain, single_lane}
 use Rattle.fc_marks.specs.declared.error.NotedStop.TheVariants.{NoMemory as WantsMemory}
 use Rattle.fc_marks.specs.declared.error.NotedStop.{NotedStop}
-use Rattle.fc_noted.proofs.Accessing.{answered_turn}
+use Rattle.fc_noted.proofs.Accessing.{answered_turn, in_lane}
 use Rattle.fc_noted.proofs.Counting.{CountsLess, counted_before, counts_less, has_counted}
 use Rattle.fc_noted.proofs.Holding.{HoldSame}
 use Rattle.fc_noted.proofs.Still.{HoldStill, LeadsStill, access_leads, point_next, still_made}
@@ -116,6 +116,7 @@ module _ {C D : Type 0} (seen : D → List ℕ) (may_leave : D → List ℕ → 
       let turn = read_turn w h.told.1.entries h.told.0 in
       access_leads (StandsFor store) grain w least h.point (ReadBlocks part) entry (lane_of_grain w g) turn
       (read_tells (StandsFor store) grain w (after_access grain w (lane_of_grain w g) entry) part entry turn)
+      (in_lane entry.place (lane_of_grain w (grain_of_block grain part.block)) (read_step (StandsFor store) grain w (after_access grain w (lane_of_grain w g) entry) part entry turn).place)
 
   disks : map disks_of store.lanes ≡ map disks_of old.store.lanes
   disks =

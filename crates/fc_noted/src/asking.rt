@@ -9,7 +9,7 @@ ghost use Rattle.fc_lane.specs.Lane.{IsFollowing, of};
 ghost use Rattle.fc_lane.specs.declared.worker.Worker.TheVariants.{Cleaner, Copier};
 ghost use Rattle.fc_lanes.specs.declared.access.Access.TheVariants.{Read, Write};
 ghost use Rattle.fc_legal.specs.Whole.{Whole};
-ghost use Rattle.fc_noted.specs.Making.{KeepLanes, StepMade, always};
+ghost use Rattle.fc_noted.specs.Making.{KeepLanes, KeepsCount, StepMade, always};
 ghost use Rattle.fc_noted.specs.Noted.{IsNotedAt};
 ghost use Rattle.fc_noted.specs.Stopping.{AsksSome};
 ghost use Rattle.fc_rules.specs.LaneFits.{FitsPart};
@@ -80,6 +80,7 @@ impl<D: Mdisk, M: MetaDisk> Noted<D, M> {
         ensures full { IsErrOf result NotedStop.LogFull → (w : Whole) → StandsFor self.old.store w → AsksSome self.old.store.control.grain self.old.script w }
         ensures lanes { KeepLanes self.old.store self.new.store }
         ensures live { self.new.live ≡ self.old.live }
+        ensures counted { KeepsCount M.seen M.fault_count M.calls result self.old self.new }
     {
         match self.script.next(&self.store)? {
             None => Ok(false),
@@ -100,6 +101,7 @@ impl<D: Mdisk, M: MetaDisk> Noted<D, M> {
         ensures made { StepMade M.seen M.may_leave M.moment M.left_since (always result) self.old self.new history.old history.new }
         ensures lanes { KeepLanes self.old.store self.new.store }
         ensures live { self.new.live ≡ self.old.live }
+        ensures counted { KeepsCount M.seen M.fault_count M.calls result self.old self.new }
     {
         match asked {
             Asked::Command(command) => self.command(command, history),
@@ -133,6 +135,7 @@ impl<D: Mdisk, M: MetaDisk> Noted<D, M> {
         ensures made { StepMade M.seen M.may_leave M.moment M.left_since (always result) self.old self.new history.old history.new }
         ensures lanes { KeepLanes self.old.store self.new.store }
         ensures live { self.new.live ≡ self.old.live }
+        ensures counted { KeepsCount M.seen M.fault_count M.calls result self.old self.new }
     {
         if is_full(history) {
             return Err(NotedStop::LogFull);
@@ -159,6 +162,7 @@ impl<D: Mdisk, M: MetaDisk> Noted<D, M> {
         ensures made { StepMade M.seen M.may_leave M.moment M.left_since (always result) self.old self.new history.old history.new }
         ensures lanes { KeepLanes self.old.store self.new.store }
         ensures live { self.new.live ≡ self.old.live }
+        ensures counted { KeepsCount M.seen M.fault_count M.calls result self.old self.new }
     {
         let place = self.store.ready_lane(grain, history)?;
         let (first, blocks) = blocks_in(self.store.grain(), block, count, grain);
@@ -195,6 +199,7 @@ impl<D: Mdisk, M: MetaDisk> Noted<D, M> {
         ensures made { StepMade M.seen M.may_leave M.moment M.left_since (always result) self.old self.new history.old history.new }
         ensures lanes { KeepLanes self.old.store self.new.store }
         ensures live { self.new.live ≡ self.old.live }
+        ensures counted { KeepsCount M.seen M.fault_count M.calls result self.old self.new }
     {
         let place = self.store.ready_lane(grain, history)?;
         let (first, blocks) = blocks_in(self.store.grain(), block, count, grain);
@@ -230,6 +235,7 @@ impl<D: Mdisk, M: MetaDisk> Noted<D, M> {
         ensures made { StepMade M.seen M.may_leave M.moment M.left_since (always result) self.old self.new history.old history.new }
         ensures lanes { KeepLanes self.old.store self.new.store }
         ensures live { self.new.live ≡ self.old.live }
+        ensures counted { KeepsCount M.seen M.fault_count M.calls result self.old self.new }
     {
         let place = self.store.ready_lane(grain.0, history)?;
         let worker = worker_of(cleans);

@@ -7,7 +7,7 @@ ghost use Rattle.fc_changed.specs.Row.{Row};
 ghost use Rattle.fc_legal.specs.Added.{Adds};
 ghost use Rattle.fc_legal.specs.Agenda.{Reading, Session, session_rules};
 ghost use Rattle.fc_legal.specs.Whole.{Whole};
-ghost use Rattle.fc_noted.specs.Making.{KeepLanes};
+ghost use Rattle.fc_noted.specs.Making.{KeepLanes, KeepsCount};
 ghost use Rattle.fc_noted.specs.Noted.{IsNotedAt};
 ghost use Rattle.fc_noted.specs.Stopping.{Halts, LineHalts};
 ghost use Rattle.fc_script.specs.Script.{agenda_of};
@@ -33,9 +33,10 @@ impl<D: Mdisk, M: MetaDisk> Noted<D, M> {
             (next : Whole) × (least_next : List Row) × IsNotedAt M.seen M.may_leave self.new history.new next least_next
             × Adds history.old history.new (λ more. GoesToEnd (session_rules self.old.store.control.grain read) (Session (single bytes ∷ [])) w more next)) }
         ensures halted { IfErr result (λ stop. (read : Reading) (bytes : List ℕ) (w : Whole) (least : List Row) → read w.books bytes ≡ Ok line → IsNotedAt M.seen M.may_leave self.old history.old w least →
-            LineHalts M.may_leave read stop self.old self.new bytes w history.old history.new) }
+            LineHalts M.seen M.may_leave M.fault_count M.calls read stop self.old self.new bytes w history.old history.new) }
         ensures grain { OnOk result (self.new.store.control.grain ≡ self.old.store.control.grain) }
         ensures lanes { KeepLanes self.old.store self.new.store }
+        ensures counted { KeepsCount M.seen M.fault_count M.calls result self.old self.new }
         ensures live { OnOk result (self.new.live ≡ true) }
         ensures stopped { OnErr result (self.new.live ≡ false) }
         ensures limit { length history.new.entries ≤ 262144 }
@@ -58,9 +59,10 @@ impl<D: Mdisk, M: MetaDisk> Noted<D, M> {
             (next : Whole) × (least_next : List Row) × IsNotedAt M.seen M.may_leave self.new history.new next least_next
             × Adds history.old history.new (λ more. GoesToEnd (session_rules self.old.store.control.grain read) (Session (single bytes ∷ [])) w more next)) }
         ensures halted { IfErr result (λ stop. (read : Reading) (bytes : List ℕ) (w : Whole) (least : List Row) → read w.books bytes ≡ Err fault → IsNotedAt M.seen M.may_leave self.old history.old w least →
-            LineHalts M.may_leave read stop self.old self.new bytes w history.old history.new) }
+            LineHalts M.seen M.may_leave M.fault_count M.calls read stop self.old self.new bytes w history.old history.new) }
         ensures grain { OnOk result (self.new.store.control.grain ≡ self.old.store.control.grain) }
         ensures lanes { KeepLanes self.old.store self.new.store }
+        ensures counted { KeepsCount M.seen M.fault_count M.calls result self.old self.new }
         ensures live { OnOk result (self.new.live ≡ true) }
         ensures stopped { OnErr result (self.new.live ≡ false) }
         ensures limit { length history.new.entries ≤ 262144 }
@@ -80,9 +82,10 @@ impl<D: Mdisk, M: MetaDisk> Noted<D, M> {
             (next : Whole) × (least_next : List Row) × IsNotedAt M.seen M.may_leave self.new history.new next least_next
             × Adds history.old history.new (λ more. GoesToEnd (session_rules self.old.store.control.grain read) (agenda_of self.old.store.control.grain self.old.script) w more next)) }
         ensures halted { IfErr result (λ stop. (read : Reading) (w : Whole) (least : List Row) → IsNotedAt M.seen M.may_leave self.old history.old w least →
-            Halts self.old.store.control.grain M.may_leave read stop (agenda_of self.old.store.control.grain self.old.script) self.new w history.old history.new) }
+            Halts M.seen M.may_leave M.fault_count M.calls self.old.store.control.grain read stop (agenda_of self.old.store.control.grain self.old.script) self.old self.new w history.old history.new) }
         ensures grain { OnOk result (self.new.store.control.grain ≡ self.old.store.control.grain) }
         ensures lanes { KeepLanes self.old.store self.new.store }
+        ensures counted { KeepsCount M.seen M.fault_count M.calls result self.old self.new }
         ensures live { OnOk result (self.new.live ≡ true) }
         ensures stopped { OnErr result (self.new.live ≡ false) }
         ensures limit { length history.new.entries ≤ 262144 }

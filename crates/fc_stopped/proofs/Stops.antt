@@ -15,10 +15,11 @@ use Rattle.fc_run.specs.Headline.{Session, SessionEnds}
 use Rattle.fc_run.specs.Input.{Gave}
 use Rattle.fc_run.specs.declared.ended.Ended.{Ended}
 use Rattle.fc_stopped.proofs.Ends.{far_ends, short_ends}
-use Rattle.fc_stopped.proofs.Sessions.{CallTo, ComesTo, TakesSome, came_far, is_legal, session_left, takes_some}
-use Rattle.fc_stopped.specs.Ending.{StatePut, TextEnds, over_disks}
+use Rattle.fc_stopped.proofs.Sessions.{CallTo, CameTo, TakesSome, came_far, is_legal, session_left, takes_some}
+use Rattle.fc_stopped.specs.Ending.{StatePut, TextEnds, goes_by, over_disks}
 use Rattle.fc_stopped.specs.Far.{far_of}
-use Rattle.fc_stopped.specs.Lines.{HasLeft, noted_runs}
+use Rattle.fc_stopped.specs.Countdown.{calls_by_stop, faults_by_stop}
+use Rattle.fc_stopped.specs.Lines.{HasLeft, StopStart, noted_runs}
 use Rattle.fc_stopped.specs.Stopped.{ComeBack, IsState, StopEnds}
 use Rattle.fc_stopped.specs.Text.{far_text}
 use Rattle.fc_stopped.specs.declared.far.Far.{Far}
@@ -28,20 +29,20 @@ no_fault : (old new : ℕ) → new ≡ 0 → HasRisen old new → ⊥
 no_fault old new none (inl rose) = omega (arith, none, rose)
 no_fault old new none (inr last) = omega (arith, none, last)
 
-pub noted_left : {C : Type 0} (n : Noted C StopState) (stop : Option NotedStop) (old : List DiskState) {s : Session} → s.sink'.faults ≡ 0 → length s.history.entries ≤ 262144 →
-    (ends : SessionEnds s (noted_runs (λ (d : StopState). d.bytes) StopLeaves n stop (over_disks old))) →
-    HasLeft (λ (d : StopState). d.bytes) StopLeaves n (over_disks old) s.history (ComesTo s.ended (over_disks old) s.source s.source' s.history ends.bytes)
-noted_left n stop old {s = s} none room ends =
-    session_left (λ (d : StopState). d.bytes) StopLeaves n stop (over_disks old) s ends.bytes room s.ended (no_fault s.sink.faults s.sink'.faults none) ends.ends
+pub noted_left : {C : Type 0} (n : Noted C StopState) (stop : Option NotedStop) (by : StopStart) {s : Session} → s.sink'.faults ≡ 0 → length s.history.entries ≤ 262144 →
+    (ends : SessionEnds s (noted_runs (λ (d : StopState). d.bytes) StopLeaves faults_by_stop calls_by_stop n stop by)) →
+    HasLeft (λ (d : StopState). d.bytes) StopLeaves faults_by_stop calls_by_stop n by.start s.history (CameTo s.ended stop by s.source s.source' s.history ends.bytes)
+noted_left n stop by {s = s} none room ends =
+    session_left (λ (d : StopState). d.bytes) StopLeaves faults_by_stop calls_by_stop n stop by s ends.bytes room s.ended (no_fault s.sink.faults s.sink'.faults none) ends.ends
 
-module _ (number : ℕ) (call : Call) (e : Ended) (stop : Option NotedStop) (bytes : List ℕ) (left : Agenda) (last : Whole)
-    (told : IsOf last call.history) (gave : Gave call.source bytes call.source') (to : CallTo e call bytes left last) where
+module _ (number half : ℕ) (call : Call) (e : Ended) (stop : Option NotedStop) (bytes : List ℕ) (left : Agenda) (last : Whole)
+    (told : IsOf last call.history) (gave : Gave call.source bytes call.source') (to : CallTo number half e stop call bytes left last) where
   some : TakesSome (over_disks call.disks) call.source' call.history bytes last
-  some = takes_some e (over_disks call.disks) call.source call.source' call.history bytes left last to
+  some = takes_some e stop (goes_by number half call.disks) call.source call.source' call.history bytes left last to
 
   -- It came so far, and what is recovered is written.
   pub stop_far : (far : Far) → far_of number e stop ≡ Ok far → StatePut (history_text call.history ++ far_text far) (IsState call last left) call.status call.sink call.sink' →
-      ComeBack call.status call.disks call.disks' last → StopEnds number call
+      ComeBack call.status call.disks call.disks' last → StopEnds number half call
   stop_far far is put back =
       record {
         last = last;
@@ -49,13 +50,13 @@ module _ (number : ℕ) (call : Call) (e : Ended) (stop : Option NotedStop) (byt
         named = inl told;
         bytes = bytes;
         gave = gave;
-        ends = far_ends number far call bytes left last (came_far number call bytes left last e stop far is to) some call.status put;
+        ends = far_ends number half far call bytes left last (came_far number half call bytes left last e stop far is to) some call.status put;
         disks = back;
       }
 
   -- It ended with this status.
   pub stop_short : (asked : Status) → far_of number e stop ≡ Err asked → TextEnds (history_text call.history) asked call.status call.sink call.sink' → ComeBack call.status call.disks call.disks' last →
-      StopEnds number call
+      StopEnds number half call
   stop_short asked is text back =
       record {
         last = last;
@@ -63,6 +64,6 @@ module _ (number : ℕ) (call : Call) (e : Ended) (stop : Option NotedStop) (byt
         named = inl told;
         bytes = bytes;
         gave = gave;
-        ends = short_ends number call bytes left last e stop asked call.status is to some text;
+        ends = short_ends number half call bytes left last e stop asked call.status is to some text;
         disks = back;
       }

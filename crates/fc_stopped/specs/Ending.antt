@@ -13,6 +13,7 @@ use Rattle.fc_kept.specs.Sound.{IsSoundImage}
 use Rattle.fc_marks.specs.declared.error.NotedStop.{NotedStop}
 use Rattle.fc_marks.specs.declared.error.NotedStop.TheVariants.{LogFull, MetaFailed, MetaFull, NoMemory}
 use Rattle.fc_mdisk.specs.Disk.{DiskState}
+use Rattle.fc_meta.specs.States.{room_of}
 use Rattle.fc_metadisk.specs.Stop.{StopLeaves, StopState}
 use Rattle.fc_noted.specs.Noted.{IsNotedAt, NoHistory}
 use Rattle.fc_noted.specs.declared.noted.Noted.{Noted}
@@ -22,7 +23,8 @@ use Rattle.fc_recovery_text.specs.Recovering.{IsFirstText}
 use Rattle.fc_recovery_text.specs.declared.state.Unwritten.{Unwritten}
 use Rattle.fc_recovery_text.specs.declared.state.Unwritten.TheVariants.{Failed, NoMemory as WantsMemory}
 use Rattle.fc_run.specs.Output.{IsWritten}
-use Rattle.fc_stopped.specs.Lines.{HasLanes}
+use Rattle.fc_stopped.specs.Countdown.{calls_by_stop, faults_by_stop}
+use Rattle.fc_stopped.specs.Lines.{HasCounted, HasLanes, StopStart}
 use Rattle.fc_stopped.specs.Text.{far_text}
 use Rattle.fc_stopped.specs.declared.far.Far.TheVariants.{ToCall, ToFull}
 
@@ -37,12 +39,17 @@ own_disks disks = map (λ (d : NamedDisk). d.disk) disks
 abbrev pub all_disks : List (List NamedDisk) → List DiskState
 all_disks lanes = flat_map own_disks lanes
 
--- A noted store before the first line, over these disks.
-pub record IsOpened {C : Type 0} (n : Noted C StopState) (old : List DiskState) : Type 0 where
+-- What a session goes by over these disks, whose disk of metadata stops at a call and has halves of so many bytes.
+abbrev pub goes_by : ℕ → ℕ → List DiskState → StopStart
+goes_by number half disks = record { start = over_disks disks; number = number; half = half }
+
+-- A noted store before the first line, over these disks and a disk of metadata that stops at this call.
+pub record IsOpened {C : Type 0} (n : Noted C StopState) (old : List DiskState) (number : ℕ) : Type 0 where
   pub live : n.live ≡ true
   pub grain : n.store.control.grain ≡ K64
   pub lanes : HasLanes (over_disks old) n.store.lanes
   pub at : IsNotedAt (λ (d : StopState). d.bytes) StopLeaves n NoHistory (first_told old) []
+  pub counted : HasCounted (λ (d : StopState). d.bytes) StopLeaves faults_by_stop calls_by_stop n (goes_by number (room_of (λ (d : StopState). d.bytes) n.meta) old)
 
 -- Why the first image isn't on the disk, or isn't known to be: what stands there is none, or one without volumes.
 pub record IsUnopened (bytes : List ℕ) (stop : NotedStop) : Type 0 where

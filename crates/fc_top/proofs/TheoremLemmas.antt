@@ -23,8 +23,8 @@ use Rattle.fc_top.specs.Theorem.{Theorem}
 use Rattle.fc_verdict.proofs.CheckLemmas.{starved_check}
 
 -- A stop whose words are in the grammar isn't Usage.
-pub stop_ran : (number : ℕ) (call : Call) → StopEnds number call → call.status ≢ status.Usage
-stop_ran number call ends usage = subst (λ (s : Status). EndsBy number s call ends.last ends.bytes) usage ends.ends
+pub stop_ran : (number half : ℕ) (call : Call) → StopEnds number half call → call.status ≢ status.Usage
+stop_ran number half call ends usage = subst (λ (s : Status). EndsBy number half s call ends.last ends.bytes) usage ends.ends
 
 -- What is asked for was run.
 pub theorem_run :

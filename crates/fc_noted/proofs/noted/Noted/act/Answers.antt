@@ -1,9 +1,12 @@
 -- The decision is made ready and done, and metadata is made anew.
-use Rattle.std.proofs.Common.{◌≡◌, Bool, Some, is_some, inl, inr, refl, sym, ap, subst, ◌∙◌}
+use Rattle.std.proofs.Common.{◌≡◌, Bool, Some, is_some, inl, inr, refl, sym, ap, subst, ◌∙◌, Err, Ok}
 use Rattle.fc_meta.specs.States.{disk_of, found}
 use Rattle.law_noted.specs.Records.{removed_by}
 use Rattle.fc_noted.proofs.Acting.{about_image, acted_image, acted_on, always_true, by_image, first_true, none_gone, on_error, stayed, still_there}
 use Rattle.fc_noted.specs.Making.{AnewOr, HasActed, HasStayed, IsImageAfter, LeavesAnew}
+use Rattle.std.proofs.lemmas.Result.{err_from_is_err_and}
+use Rattle.fc_marks.specs.declared.error.NotedStop.TheVariants.{NoMemory as WantsMemory}
+use Rattle.fc_noted.proofs.MeteringNoted.{calls_of_error, no_calls, same_calls}
 use Rattle.fc_noted.proofs.noted.Noted.act.Goals as goal
 
 -- ---- nothing is done yet
@@ -76,6 +79,8 @@ returns-in-Some-clause-anew g c =
       after = after;
       named = c.in_ok-make_anew.ensures.named.0;
       unmarked = c.in_ok-make_anew.ensures.named.1;
+      used = c.in_ok-make_anew.ensures.used;
+      calls = c.make_anew.ensures.calls;
     })
 
 -- ---- or none goes
@@ -143,8 +148,69 @@ returns-in_ok-make_anew-2-clause-anew g c =
       after = after;
       named = c.in_ok-make_anew-2.ensures.named.0;
       unmarked = c.in_ok-make_anew-2.ensures.named.1;
+      used = c.in_ok-make_anew-2.ensures.used;
+      calls = c.make_anew-then-has_action.ensures.calls;
     })
 
 pub returns-else-has_action-clause-done : goal.returns-else-has_action-clause-done
 returns-else-has_action-clause-done g c =
     acted_on c.args.self.now.store c.reserve_all.new.self c.reserve_all.new.self c.apply_all-2.new.self c.args.decision.now c.reserve_all.ensures.reserved refl c.apply_all-2.ensures.done
+
+-- ---- calls of the disk of metadata
+
+pub returns-in_err-make_anew-clause-counted : goal.returns-in_err-make_anew-clause-counted
+returns-in_err-make_anew-clause-counted g c =
+    let p = err_from_is_err_and c.from_residual-in_err-make_anew.result c.from_residual-in_err-make_anew.ensures.1 in
+    let mid = record c.args.self.now { store = c.reserve_all.new.self } in
+    calls_of_error g.M.MetaDisk.seen g.M.MetaDisk.fault_count g.M.MetaDisk.calls c.from_residual-in_err-make_anew.result p.0 c.in_err-make_anew.field-0.0 c.args.self.now mid c.make_anew.new.self c.make_anew.new.self p.1 p.2 refl refl refl refl c.in_err-make_anew.ensures.counted
+
+pub returns-in-Some-clause-counted : goal.returns-in-Some-clause-counted
+returns-in-Some-clause-counted g c =
+    let mid = record c.args.self.now { store = c.reserve_all.new.self } in
+    let new = record c.make_anew.new.self { store = c.apply_all.new.self } in
+    same_calls g.M.MetaDisk.seen g.M.MetaDisk.fault_count g.M.MetaDisk.calls (Ok tt) (Ok tt) c.args.self.now mid c.make_anew.new.self new refl refl refl refl (λ P p. p) (λ e. cc) c.in_ok-make_anew.ensures.counted
+
+pub returns-in_err-make_anew-clause-failed : goal.returns-in_err-make_anew-clause-failed
+returns-in_err-make_anew-clause-failed g c = λ e. (
+  always_true c.args.has_action (is_some (removed_by c.args.decision.now.events)) (ap is_some (sym c.removed_by.ensures ∙ c.in-Some.is)),
+  c.make_anew.ensures.calls,
+)
+
+pub returns-in_err-make_anew-2-clause-counted : goal.returns-in_err-make_anew-2-clause-counted
+returns-in_err-make_anew-2-clause-counted g c =
+    let p = err_from_is_err_and c.from_residual-in_err-make_anew-2.result c.from_residual-in_err-make_anew-2.ensures.1 in
+    let mid = record c.args.self.now { store = c.apply_all-2.new.self } in
+    let new = c.make_anew-then-has_action.new.self in
+    calls_of_error g.M.MetaDisk.seen g.M.MetaDisk.fault_count g.M.MetaDisk.calls c.from_residual-in_err-make_anew-2.result p.0 c.in_err-make_anew-2.field-0.0 c.args.self.now mid new new p.1 p.2 refl refl refl refl c.in_err-make_anew-2.ensures.counted
+
+pub returns-in_ok-make_anew-2-clause-counted : goal.returns-in_ok-make_anew-2-clause-counted
+returns-in_ok-make_anew-2-clause-counted g c =
+    let mid = record c.args.self.now { store = c.apply_all-2.new.self } in
+    let new = c.make_anew-then-has_action.new.self in
+    same_calls g.M.MetaDisk.seen g.M.MetaDisk.fault_count g.M.MetaDisk.calls (Ok tt) (Ok tt) c.args.self.now mid new new refl refl refl refl (λ P p. p) (λ e. cc) c.in_ok-make_anew-2.ensures.counted
+
+pub returns-in_err-make_anew-2-clause-failed : goal.returns-in_err-make_anew-2-clause-failed
+returns-in_err-make_anew-2-clause-failed g c = λ e. (
+  first_true c.args.has_action (is_some (removed_by c.args.decision.now.events)) c.if-has_action.true,
+  c.make_anew-then-has_action.ensures.calls,
+)
+
+pub returns-else-has_action-clause-counted : goal.returns-else-has_action-clause-counted
+returns-else-has_action-clause-counted g c = no_calls g.M.MetaDisk.seen g.M.MetaDisk.fault_count g.M.MetaDisk.calls (Ok tt) c.args.self.now (record c.args.self.now { store = c.apply_all-2.new.self }) refl refl (λ e. cc)
+
+-- for want of memory it isn't
+
+pub returns-in_err-reserve_all-clause-counted : goal.returns-in_err-reserve_all-clause-counted
+returns-in_err-reserve_all-clause-counted g c =
+    let p = err_from_is_err_and c.from_residual.result c.from_residual.ensures.1 in
+    rw (p.1, p.2) (no_calls g.M.MetaDisk.seen g.M.MetaDisk.fault_count g.M.MetaDisk.calls (Err WantsMemory) c.args.self.now (record c.args.self.now { store = c.reserve_all.new.self }) refl refl (λ e. cc))
+
+pub returns-in_err-image-clause-counted : goal.returns-in_err-image-clause-counted
+returns-in_err-image-clause-counted g c =
+    let p = err_from_is_err_and c.from_residual-in_err-image.result c.from_residual-in_err-image.ensures.1 in
+    rw (p.1, p.2) (no_calls g.M.MetaDisk.seen g.M.MetaDisk.fault_count g.M.MetaDisk.calls (Err WantsMemory) c.args.self.now (record c.args.self.now { store = c.reserve_all.new.self }) refl refl (λ e. cc))
+
+pub returns-in_err-image-2-clause-counted : goal.returns-in_err-image-2-clause-counted
+returns-in_err-image-2-clause-counted g c =
+    let p = err_from_is_err_and c.from_residual-in_err-image-2.result c.from_residual-in_err-image-2.ensures.1 in
+    rw (p.1, p.2) (no_calls g.M.MetaDisk.seen g.M.MetaDisk.fault_count g.M.MetaDisk.calls (Err WantsMemory) c.args.self.now (record c.args.self.now { store = c.apply_all-2.new.self }) refl refl (λ e. cc))

@@ -1,5 +1,5 @@
 -- A copy or a cleaning begins in the lane of its grain.
-use Rattle.std.proofs.Common.{Err, Ok, List, true, subst, sym, ap, ◌∙◌}
+use Rattle.std.proofs.Common.{Err, Ok, List, true, subst, sym, ap, ◌∙◌, refl}
 use Rattle.std.proofs.lemmas.Result.{err_from_is_err_and}
 use Rattle.fc_base.specs.declared.request.Request.{Request}
 use Rattle.fc_base.specs.declared.size.GrainSize.{GrainSize}
@@ -13,13 +13,14 @@ use Rattle.fc_legal.specs.Agenda.{Asks}
 use Rattle.fc_legal.specs.Whole.{Whole}
 use Rattle.fc_marks.specs.Stops.{stop_of_log}
 use Rattle.fc_noted.proofs.Begun.{begun_made, stopped_made}
-use Rattle.fc_noted.proofs.Filling.{fill_can, fill_in_volume, fill_of_lane, fill_request, full_only, worker_of}
+use Rattle.fc_noted.proofs.Filling.{fill_can, fill_in_volume, fill_of_lane, fill_request, full_only, not_failed, worker_of, no_disk_failed}
 use Rattle.fc_noted.proofs.KeepingLanes.{begun_keeps, lanes_go_on, lanes_hold}
 use Rattle.fc_noted.specs.Making.{KeepLanes, StepMade}
 use Rattle.fc_script.specs.Asking.{HasNextFill, work_of}
 use Rattle.fc_script.specs.Script.{agenda_of}
 use Rattle.fc_script.specs.declared.asking.Asked.TheVariants.{Fill}
 use Rattle.fc_store.specs.Stepping.{lane_in, no_lane}
+use Rattle.fc_noted.proofs.MeteringNoted.{no_calls}
 use Rattle.fc_noted.proofs.noted.Noted.begin_fill.Goals as goal
 
 pub ready_lane-requires : goal.ready_lane-requires
@@ -31,7 +32,7 @@ returns-in_err-place-clause-made g c =
     rw (p.1, p.2) (
     stopped_made g.M.MetaDisk.seen g.M.MetaDisk.may_leave g.M.MetaDisk.moment g.M.MetaDisk.left_since g.met.M.MetaDisk.only_now c.args.self.now c.args.history.now c.ready_lane.new.self
     c.ready_lane.ensures.kept.control c.ready_lane.ensures.kept.grains c.ready_lane.ensures.kept.stands c.requires.at.2.idle c.requires.live c.requires.room
-    (stop_of_log c.in_err-place.field-0.0) (full_only c.in_err-place.field-0.0 c.args.history.now c.in_err-place.ensures.stopped)
+    (stop_of_log c.in_err-place.field-0.0) (full_only c.in_err-place.field-0.0 c.args.history.now c.in_err-place.ensures.stopped) (not_failed c.in_err-place.field-0.0)
     )
 
 pub begin_fill-doing-requires-clause-there : goal.begin_fill-doing-requires-clause-there
@@ -83,3 +84,14 @@ returns-clause-lanes g c =
     subst (λ n. KeepLanes c.args.self.now.store n.store) (sym c.take_up.ensures)
     (lanes_go_on c.args.self.now.store c.ready_lane.new.self store (lanes_hold c.args.self.now.store c.ready_lane.new.self c.ready_lane.ensures.kept.grains)
     (begun_keeps place c.ready_lane.new.self store c.begin_fill-doing.result c.begin_fill-doing.ensures.others c.begin_fill-doing.ensures.begun.way))
+
+-- ---- the disk of metadata isn't called
+
+pub returns-in_err-place-clause-counted : goal.returns-in_err-place-clause-counted
+returns-in_err-place-clause-counted g c =
+    let p = err_from_is_err_and c.from_residual.result c.from_residual.ensures.1 in
+    rw (p.1, p.2) (no_calls g.M.MetaDisk.seen g.M.MetaDisk.fault_count g.M.MetaDisk.calls (Err (stop_of_log c.in_err-place.field-0.0)) c.args.self.now (record c.args.self.now { store = c.ready_lane.new.self }) refl refl (no_disk_failed c.in_err-place.field-0.0))
+
+pub returns-clause-counted : goal.returns-clause-counted
+returns-clause-counted g c =
+    no_calls g.M.MetaDisk.seen g.M.MetaDisk.fault_count g.M.MetaDisk.calls (Ok tt) c.args.self.now c.take_up.new.self (ap (λ n. n.calls) c.take_up.ensures) (ap (λ n. n.meta) c.take_up.ensures) (λ e. cc)

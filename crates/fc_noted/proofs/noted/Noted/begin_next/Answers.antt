@@ -1,10 +1,12 @@
 -- What the script asks next begins.
-use Rattle.std.proofs.Common.{Ok, Err, Option, true, subst}
+use Rattle.std.proofs.Common.{Ok, Err, Option, true, subst, false, refl}
 use Rattle.std.proofs.lemmas.Result.{err_from_is_err_and}
 use Rattle.fc_noted.proofs.Nexts.{made_behind, nothing_next, script_noted, wanted_next}
 use Rattle.fc_script.specs.Asking.{IsNext, request_of}
 use Rattle.fc_script.specs.Script.{agenda_of}
 use Rattle.fc_script.specs.declared.asking.Asked.{Asked}
+use Rattle.fc_noted.proofs.MeteringNoted.{calls_of_error, no_calls, same_calls}
+use Rattle.fc_marks.specs.declared.error.NotedStop.TheVariants.{NoMemory as WantsMemory}
 use Rattle.fc_noted.proofs.noted.Noted.begin_next.Goals as goal
 
 pub next-requires-clause-stands : goal.next-requires-clause-stands
@@ -56,3 +58,24 @@ returns-in_err-begin-in-Some-clause-full g c = λ is w up. (
   c.in_ok-next.ensures.goes w up,
   subst (λ (o : Option Asked). IsNext c.args.self.now.store.control.grain w o (agenda_of c.args.self.now.store.control.grain c.next.new.self)) c.in-Some.is (c.in_ok-next.ensures.next w up),
 )
+
+-- ---- the disk of metadata is called by what begins alone
+
+pub returns-in_err-next-clause-counted : goal.returns-in_err-next-clause-counted
+returns-in_err-next-clause-counted g c =
+    let p = err_from_is_err_and c.from_residual.result c.from_residual.ensures.1 in
+    rw (p.1, p.2) (no_calls g.M.MetaDisk.seen g.M.MetaDisk.fault_count g.M.MetaDisk.calls (Err WantsMemory) c.args.self.now (record c.args.self.now { script = c.next.new.self }) refl refl (λ e. cc))
+
+pub returns-in_err-begin-in-Some-clause-counted : goal.returns-in_err-begin-in-Some-clause-counted
+returns-in_err-begin-in-Some-clause-counted g c =
+    let p = err_from_is_err_and c.from_residual-in_err-begin-in-Some.result c.from_residual-in_err-begin-in-Some.ensures.1 in
+    let mid = record c.args.self.now { script = c.next.new.self } in
+    calls_of_error g.M.MetaDisk.seen g.M.MetaDisk.fault_count g.M.MetaDisk.calls c.from_residual-in_err-begin-in-Some.result p.0 c.in_err-begin-in-Some.field-0.0 c.args.self.now mid c.begin.new.self c.begin.new.self p.1 p.2 refl refl refl refl c.in_err-begin-in-Some.ensures.counted
+
+pub returns-in_ok-begin-in-Some-clause-counted : goal.returns-in_ok-begin-in-Some-clause-counted
+returns-in_ok-begin-in-Some-clause-counted g c =
+    let mid = record c.args.self.now { script = c.next.new.self } in
+    same_calls g.M.MetaDisk.seen g.M.MetaDisk.fault_count g.M.MetaDisk.calls (Ok tt) (Ok true) c.args.self.now mid c.begin.new.self c.begin.new.self refl refl refl refl (λ P p. p) (λ e. cc) c.in_ok-begin-in-Some.ensures.counted
+
+pub returns-in-None-clause-counted : goal.returns-in-None-clause-counted
+returns-in-None-clause-counted g c = no_calls g.M.MetaDisk.seen g.M.MetaDisk.fault_count g.M.MetaDisk.calls (Ok false) c.args.self.now (record c.args.self.now { script = c.next.new.self }) refl refl (λ e. cc)

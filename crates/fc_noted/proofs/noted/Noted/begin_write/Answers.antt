@@ -1,5 +1,5 @@
 -- A write begins in the lane of its grain.
-use Rattle.std.proofs.Common.{◌≡◌, None, arith, Ok, true, subst, sym, ap, ◌∙◌}
+use Rattle.std.proofs.Common.{◌≡◌, None, arith, Ok, true, subst, sym, ap, ◌∙◌, Err, refl}
 use Rattle.std.proofs.lemmas.Result.{err_from_is_err_and}
 use Rattle.fc_base.specs.declared.request.Request.TheVariants.{Write as WriteBlocks}
 use Rattle.fc_base.specs.declared.request.Request.{Request}
@@ -12,9 +12,9 @@ use Rattle.fc_legal.specs.Agenda.{Asks}
 use Rattle.fc_legal.specs.Steps.{after_access}
 use Rattle.fc_legal.specs.Whole.{Whole, lane_of_grain}
 use Rattle.fc_marks.specs.Stops.{stop_of_log}
-use Rattle.fc_noted.proofs.Accessing.{access_by, access_can, access_in_volume, answered_turn, begins_within, ends_within, in_grain, no_effects, number_small, touches_there}
+use Rattle.fc_noted.proofs.Accessing.{access_by, access_can, access_in_volume, answered_turn, begins_within, ends_within, in_grain, no_effects, not_every, number_small, touches_there}
 use Rattle.fc_noted.proofs.Begun.{begun_made, stopped_made}
-use Rattle.fc_noted.proofs.Filling.{full_only}
+use Rattle.fc_noted.proofs.Filling.{full_only, not_failed, no_disk_failed}
 use Rattle.fc_noted.proofs.Holding.{one_same}
 use Rattle.fc_noted.proofs.Idle.{idle_made}
 use Rattle.fc_noted.proofs.KeepingLanes.{begun_keeps, holds_in_lane, lanes_go_on, lanes_hold, lanes_still}
@@ -27,6 +27,7 @@ use Rattle.fc_stands.proofs.Turns.{IsTurn}
 use Rattle.fc_stands.specs.Store.{StandsFor, StoreView}
 use Rattle.fc_steps.specs.declared.ask.Ask.TheVariants.{Write as WriteAsk}
 use Rattle.fc_store.specs.Stepping.{no_lane}
+use Rattle.fc_noted.proofs.MeteringNoted.{no_calls, memory_alone}
 use Rattle.fc_noted.proofs.noted.Noted.begin_write.Goals as goal
 
 pub ready_lane-requires : goal.ready_lane-requires
@@ -38,7 +39,7 @@ returns-in_err-place-clause-made g c =
     rw (p.1, p.2) (
     stopped_made g.M.MetaDisk.seen g.M.MetaDisk.may_leave g.M.MetaDisk.moment g.M.MetaDisk.left_since g.met.M.MetaDisk.only_now c.args.self.now c.args.history.now c.ready_lane.new.self
     c.ready_lane.ensures.kept.control c.ready_lane.ensures.kept.grains c.ready_lane.ensures.kept.stands c.requires.at.2.idle c.requires.live c.requires.room
-    (stop_of_log c.in_err-place.field-0.0) (full_only c.in_err-place.field-0.0 c.args.history.now c.in_err-place.ensures.stopped)
+    (stop_of_log c.in_err-place.field-0.0) (full_only c.in_err-place.field-0.0 c.args.history.now c.in_err-place.ensures.stopped) (not_failed c.in_err-place.field-0.0)
     )
 
 pub blocks_in-first-requires-clause-begins : goal.blocks_in-first-requires-clause-begins
@@ -139,6 +140,8 @@ returns-in-Answered-clause-made g c =
       unwritten = unwritten;
       no_effects = no_effects c.ready_lane.new.self at.0 (kept.stands at.0 at.2.told.0) c.args.grain place c.in_ok-place.ensures.ready c.args.volume c.args.block c.args.count c.blocks_in-first.result.0 c.blocks_in-first.result.1
           touches within (Write c.args.byte) c.len.result entry store begun.0 is (omega (arith, nothing.calls)) (at.2.told.1.entries ∙ sym c.len.ensures);
+      not_every = not_every c.ready_lane.new.self at.0 (kept.stands at.0 at.2.told.0) c.args.grain place c.in_ok-place.ensures.ready c.args.volume c.args.block c.args.count c.blocks_in-first.result.0 c.blocks_in-first.result.1
+          touches within (Write c.args.byte) c.len.result entry store begun.0 is (omega (arith, nothing.calls)) (at.2.told.1.entries ∙ sym c.len.ensures);
       turns = λ w least h.
           (lane_of_grain w c.args.grain, subst (λ (z : ControlState). IsTurnBy z w) kept.control (answered_turn c.ready_lane.new.self w (kept.stands w h.told.0) c.args.grain place c.in_ok-place.ensures.ready c.args.volume c.args.block c.args.count c.blocks_in-first.result.0 c.blocks_in-first.result.1 touches within (Write c.args.byte) c.len.result entry store begun.0 is (omega (arith, nothing.calls)) (h.told.1.entries ∙ sym c.len.ensures)));
       asks = λ w up. subst (λ (r : Request). AsksIt old.store.control.grain r w) (access_by c.ready_lane.new.self.control.grain c.ready_lane.new.self.control.tables c.args.volume c.args.block c.args.count c.args.grain (touches_there c.args.self.now.store.control c.ready_lane.new.self.control c.args.volume c.args.block c.args.count c.args.grain c.ready_lane.ensures.kept.control c.requires.can) c.grain.result c.grain.ensures c.blocks_in-first.result.0 c.blocks_in-first.result.1 c.blocks_in-first.ensures.first c.blocks_in-first.ensures.count (Write c.args.byte) old.store.control.grain same) (c.requires.next w up);
@@ -164,3 +167,19 @@ returns-in-Answered-clause-lanes g c =
     (lanes_go_on old roomy store (lanes_hold old roomy c.ready_lane.ensures.kept.grains)
     (holds_in_lane c.in_ok-place.place roomy store c.in-Answered.ensures.others (ap (λ (z : LaneView). z.grains) c.in-Answered.ensures.begun.1)))
     (lanes_still store c.log_entry.new.self.store (ap (λ n. n.store) c.log_entry.ensures.others))
+
+-- ---- the disk of metadata isn't called
+
+pub returns-in_err-place-clause-counted : goal.returns-in_err-place-clause-counted
+returns-in_err-place-clause-counted g c =
+    let p = err_from_is_err_and c.from_residual.result c.from_residual.ensures.1 in
+    rw (p.1, p.2) (no_calls g.M.MetaDisk.seen g.M.MetaDisk.fault_count g.M.MetaDisk.calls (Err (stop_of_log c.in_err-place.field-0.0)) c.args.self.now (record c.args.self.now { store = c.ready_lane.new.self }) refl refl (no_disk_failed c.in_err-place.field-0.0))
+
+pub returns-in-UnderWay-clause-counted : goal.returns-in-UnderWay-clause-counted
+returns-in-UnderWay-clause-counted g c =
+    no_calls g.M.MetaDisk.seen g.M.MetaDisk.fault_count g.M.MetaDisk.calls (Ok tt) c.args.self.now c.take_up.new.self (ap (λ n. n.calls) c.take_up.ensures) (ap (λ n. n.meta) c.take_up.ensures) (λ e. cc)
+
+pub returns-in-Answered-clause-counted : goal.returns-in-Answered-clause-counted
+returns-in-Answered-clause-counted g c =
+    no_calls g.M.MetaDisk.seen g.M.MetaDisk.fault_count g.M.MetaDisk.calls c.log_entry.result c.args.self.now c.log_entry.new.self (ap (λ n. n.calls) c.log_entry.ensures.others) (ap (λ n. n.meta) c.log_entry.ensures.others)
+    (memory_alone c.log_entry.result c.log_entry.ensures.stop)

@@ -1,10 +1,14 @@
 -- Step by step.
-use Rattle.std.proofs.Common.{Bool, List, subst}
+use Rattle.std.proofs.Common.{Bool, false, Err, List, refl, subst}
 use Rattle.fc_changed.specs.Row.{Row}
 use Rattle.fc_legal.specs.Whole.{Whole}
+use Rattle.fc_marks.specs.declared.error.NotedStop.TheVariants.{NoMemory}
+use Rattle.fc_noted.proofs.Calling.{calls_before, calls_behind, calls_of}
 use Rattle.fc_noted.proofs.Halting.{halted, halted_limit, halted_on}
 use Rattle.fc_noted.proofs.KeepingLanes.{lanes_go_on, lanes_stay}
 use Rattle.fc_noted.proofs.Lines.{all_made, all_over, comes_first, comes_on}
+use Rattle.fc_noted.proofs.MeteringNoted.{no_calls}
+use Rattle.fc_noted.specs.Making.{done}
 use Rattle.fc_noted.specs.Noted.{GoesOnTo, IsAt}
 use Rattle.fc_noted.proofs.noted.Noted.make_all.Goals as goal
 
@@ -13,6 +17,7 @@ steps-init g c =
     record {
       comes = comes_first g.M.MetaDisk.seen g.M.MetaDisk.may_leave c.args.self.now c.args.history.now c.requires.at.0 c.requires.at.1 c.requires.at.2 c.requires.live c.requires.room;
       lanes = lanes_stay c.args.self.now.store;
+      counted = no_calls g.M.MetaDisk.seen g.M.MetaDisk.fault_count g.M.MetaDisk.calls done c.args.self.now c.args.self.now refl refl (λ told. cc);
     }
 
 pub make_step-requires : goal.make_step-requires
@@ -26,6 +31,9 @@ steps-preserved g c =
           (subst (λ (more : Bool). (w : Whole) (least : List Row) → IsAt g.M.MetaDisk.seen g.M.MetaDisk.may_leave c.steps.self c.steps.history w least →
           GoesOnTo g.M.MetaDisk.seen g.M.MetaDisk.may_leave more w least c.steps.self c.steps.history c.make_step.new.self c.make_step.new.history) c.in-Ok-true.field-0-test c.in-Ok-true.ensures.made.on);
       lanes = lanes_go_on c.args.self.now.store c.steps.self.store c.make_step.new.self.store c.steps.invariant.lanes c.in-Ok-true.ensures.lanes;
+      counted =
+          calls_behind g.M.MetaDisk.seen g.M.MetaDisk.fault_count g.M.MetaDisk.calls done c.args.self.now c.steps.self c.make_step.new.self c.steps.invariant.counted
+          (calls_of g.M.MetaDisk.seen g.M.MetaDisk.fault_count g.M.MetaDisk.calls tt c.steps.self c.make_step.new.self c.in-Ok-true.ensures.counted);
     }
 
 pub returns-in-Ok-false-clause-answered : goal.returns-in-Ok-false-clause-answered
@@ -57,17 +65,17 @@ returns-in-Ok-false-clause-limit g c =
 
 pub returns-in-Err-clause-limit : goal.returns-in-Err-clause-limit
 returns-in-Err-clause-limit g c =
-    halted_limit g.M.MetaDisk.seen g.M.MetaDisk.may_leave g.M.MetaDisk.moment g.M.MetaDisk.left_since c.args.self.now c.steps.self c.args.history.now c.steps.history c.steps.invariant.comes
+    halted_limit g.M.MetaDisk.seen g.M.MetaDisk.may_leave g.M.MetaDisk.moment g.M.MetaDisk.left_since g.M.MetaDisk.fault_count g.M.MetaDisk.calls c.args.self.now c.steps.self c.args.history.now c.steps.history c.steps.invariant.comes c.steps.invariant.counted
     c.make_step.new.self c.make_step.new.history c.in-Err.stop c.in-Err.ensures.made
 
 pub returns-in-Err-clause-halted : goal.returns-in-Err-clause-halted
 returns-in-Err-clause-halted g c =
-    halted g.M.MetaDisk.seen g.M.MetaDisk.may_leave g.M.MetaDisk.moment g.M.MetaDisk.left_since c.args.self.now c.steps.self c.args.history.now c.steps.history c.steps.invariant.comes
-    c.make_step.new.self c.make_step.new.history c.in-Err.stop c.in-Err.ensures.made c.in-Err.ensures.full
+    halted g.M.MetaDisk.seen g.M.MetaDisk.may_leave g.M.MetaDisk.moment g.M.MetaDisk.left_since g.M.MetaDisk.fault_count g.M.MetaDisk.calls c.args.self.now c.steps.self c.args.history.now c.steps.history c.steps.invariant.comes c.steps.invariant.counted
+    c.make_step.new.self c.make_step.new.history c.in-Err.stop c.in-Err.ensures.made c.in-Err.ensures.full c.in-Err.ensures.counted.size
 
 pub returns-clause-halted : goal.returns-clause-halted
 returns-clause-halted g c =
-    halted_on g.M.MetaDisk.seen g.M.MetaDisk.may_leave g.M.MetaDisk.moment g.M.MetaDisk.left_since c.args.self.now c.steps.self c.args.history.now c.steps.history c.steps.invariant.comes
+    halted_on g.M.MetaDisk.seen g.M.MetaDisk.may_leave g.M.MetaDisk.moment g.M.MetaDisk.left_since g.M.MetaDisk.fault_count g.M.MetaDisk.calls c.args.self.now c.steps.self c.args.history.now c.steps.history c.steps.invariant.comes c.steps.invariant.counted
 
 pub returns-clause-limit : goal.returns-clause-limit
 returns-clause-limit g c = c.steps.invariant.comes.can.room
@@ -77,3 +85,18 @@ returns-in-Ok-false-clause-lanes g c = lanes_go_on c.args.self.now.store c.steps
 
 pub returns-in-Err-clause-lanes : goal.returns-in-Err-clause-lanes
 returns-in-Err-clause-lanes g c = lanes_go_on c.args.self.now.store c.steps.self.store c.make_step.new.self.store c.steps.invariant.lanes c.in-Err.ensures.lanes
+
+pub returns-in-Ok-false-clause-counted : goal.returns-in-Ok-false-clause-counted
+returns-in-Ok-false-clause-counted g c =
+    calls_behind g.M.MetaDisk.seen g.M.MetaDisk.fault_count g.M.MetaDisk.calls done c.args.self.now c.steps.self c.make_step.new.self c.steps.invariant.counted
+    (calls_of g.M.MetaDisk.seen g.M.MetaDisk.fault_count g.M.MetaDisk.calls tt c.steps.self c.make_step.new.self c.in-Ok-false.ensures.counted)
+
+pub returns-in-Err-clause-counted : goal.returns-in-Err-clause-counted
+returns-in-Err-clause-counted g c =
+    calls_behind g.M.MetaDisk.seen g.M.MetaDisk.fault_count g.M.MetaDisk.calls (Err c.in-Err.stop) c.args.self.now c.steps.self c.make_step.new.self c.steps.invariant.counted
+    (calls_before g.M.MetaDisk.seen g.M.MetaDisk.fault_count g.M.MetaDisk.calls c.in-Err.stop c.steps.self c.make_step.new.self c.in-Err.ensures.counted)
+
+pub returns-clause-counted : goal.returns-clause-counted
+returns-clause-counted g c =
+    calls_behind g.M.MetaDisk.seen g.M.MetaDisk.fault_count g.M.MetaDisk.calls (Err NoMemory) c.args.self.now c.steps.self (record c.steps.self { live = false }) c.steps.invariant.counted
+    (no_calls g.M.MetaDisk.seen g.M.MetaDisk.fault_count g.M.MetaDisk.calls (Err NoMemory) c.steps.self (record c.steps.self { live = false }) refl refl (λ told. cc))

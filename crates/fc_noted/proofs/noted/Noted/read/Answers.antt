@@ -1,5 +1,5 @@
 -- A read is answered in the lane of its grain, and its entry is logged.
-use Rattle.std.proofs.Common.{◌<◌, ◌^◌, arith, ap, subst, sym}
+use Rattle.std.proofs.Common.{◌<◌, ◌^◌, arith, ap, subst, sym, Err, refl}
 use Rattle.std.proofs.lemmas.Result.{err_from_is_err_and}
 use Rattle.fc_base.specs.declared.request.Request.{Request}
 use Rattle.fc_base.specs.declared.size.GrainSize.{GrainSize}
@@ -12,12 +12,13 @@ use Rattle.fc_legal.specs.Whole.{Whole, lane_of_grain}
 use Rattle.fc_marks.specs.Stops.{stop_of_log}
 use Rattle.fc_noted.proofs.Accessing.{access_by, access_can, begins_within, ends_within, in_grain, number_small, touches_there}
 use Rattle.fc_noted.proofs.Begun.{stopped_made}
-use Rattle.fc_noted.proofs.Filling.{full_only}
+use Rattle.fc_noted.proofs.Filling.{full_only, not_failed, no_disk_failed}
 use Rattle.fc_noted.proofs.KeepingLanes.{lanes_go_on, lanes_hold, lanes_still, stays_in_lane}
 use Rattle.fc_noted.proofs.Reading.{read_made, read_turn}
 use Rattle.fc_noted.specs.Making.{StepMade, always}
 use Rattle.fc_script.specs.Script.{agenda_of}
 use Rattle.fc_store.specs.Stepping.{no_lane}
+use Rattle.fc_noted.proofs.MeteringNoted.{memory_alone, no_calls}
 use Rattle.fc_noted.proofs.noted.Noted.read.Goals as goal
 
 pub ready_lane-requires : goal.ready_lane-requires
@@ -29,7 +30,7 @@ returns-in_err-place-clause-made g c =
     rw (p.1, p.2) (
     stopped_made g.M.MetaDisk.seen g.M.MetaDisk.may_leave g.M.MetaDisk.moment g.M.MetaDisk.left_since g.met.M.MetaDisk.only_now c.args.self.now c.args.history.now c.ready_lane.new.self
     c.ready_lane.ensures.kept.control c.ready_lane.ensures.kept.grains c.ready_lane.ensures.kept.stands c.requires.at.2.idle c.requires.live c.requires.room
-    (stop_of_log c.in_err-place.field-0.0) (full_only c.in_err-place.field-0.0 c.args.history.now c.in_err-place.ensures.stopped)
+    (stop_of_log c.in_err-place.field-0.0) (full_only c.in_err-place.field-0.0 c.args.history.now c.in_err-place.ensures.stopped) (not_failed c.in_err-place.field-0.0)
     )
 
 pub blocks_in-first-requires-clause-begins : goal.blocks_in-first-requires-clause-begins
@@ -115,3 +116,15 @@ returns-clause-lanes g c =
     lanes_go_on old store c.log_entry.new.self.store
     (lanes_go_on old roomy store (lanes_hold old roomy c.ready_lane.ensures.kept.grains) (stays_in_lane c.in_ok-place.place roomy store c.read_at-entry.ensures.others c.read_at-entry.ensures.followed.same))
     (lanes_still store c.log_entry.new.self.store (ap (λ n. n.store) c.log_entry.ensures.others))
+
+-- ---- the disk of metadata isn't called
+
+pub returns-in_err-place-clause-counted : goal.returns-in_err-place-clause-counted
+returns-in_err-place-clause-counted g c =
+    let p = err_from_is_err_and c.from_residual.result c.from_residual.ensures.1 in
+    rw (p.1, p.2) (no_calls g.M.MetaDisk.seen g.M.MetaDisk.fault_count g.M.MetaDisk.calls (Err (stop_of_log c.in_err-place.field-0.0)) c.args.self.now (record c.args.self.now { store = c.ready_lane.new.self }) refl refl (no_disk_failed c.in_err-place.field-0.0))
+
+pub returns-clause-counted : goal.returns-clause-counted
+returns-clause-counted g c =
+    no_calls g.M.MetaDisk.seen g.M.MetaDisk.fault_count g.M.MetaDisk.calls c.log_entry.result c.args.self.now c.log_entry.new.self (ap (λ n. n.calls) c.log_entry.ensures.others) (ap (λ n. n.meta) c.log_entry.ensures.others)
+    (memory_alone c.log_entry.result c.log_entry.ensures.stop)
