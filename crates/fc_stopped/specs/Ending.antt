@@ -19,7 +19,7 @@ use Rattle.fc_noted.specs.Noted.{IsNotedAt, NoHistory}
 use Rattle.fc_noted.specs.declared.noted.Noted.{Noted}
 use Rattle.fc_owner.specs.FirstTold.{first_told}
 use Rattle.fc_owner.specs.StoreRuns.{Start}
-use Rattle.fc_recovery_text.specs.Recovering.{IsFirstText}
+use Rattle.fc_recovery_text.specs.Recovering.{IsFirstFront, IsFirstText}
 use Rattle.fc_recovery_text.specs.declared.state.Unwritten.{Unwritten}
 use Rattle.fc_recovery_text.specs.declared.state.Unwritten.TheVariants.{Failed, NoMemory as WantsMemory}
 use Rattle.fc_run.specs.Output.{IsWritten}
@@ -71,18 +71,19 @@ StatusWritten (Ok done) is before after =
 StatusWritten (Err Failed) is before after = (is ≡ status.WriteFault) × (after ≡ before)
 StatusWritten (Err WantsMemory) is before after = (is ≡ status.NoMemory) × (after ≡ before)
 
--- A text that is known, and one behind it of which this holds; or a front of such a text.
-abbrev pub StatePut : List ℕ → (List ℕ → Type 0) → Status → SinkState → SinkState → Type 0
-StatePut known IsText status.Done before after =
+-- A text that is known, and one behind it of which this holds; or a front of it and of one of which the second holds.
+abbrev pub StatePut : List ℕ → (IsText IsFront : List ℕ → Type 0) → Status → SinkState → SinkState → Type 0
+StatePut known IsText IsFront status.Done before after =
     (text : List ℕ) × IsText text × (after.held ≡ held_with before.held (known ++ text)) × (after.sent ≡ after.held)
-StatePut known IsText status.WriteFault before after =
-    (text : List ℕ) × AddsFront before.held (known ++ text) after.held × HasRisen before.faults after.faults
-StatePut known IsText status.NoMemory before after = (text : List ℕ) × AddsFront before.held (known ++ text) after.held
-StatePut known IsText other before after = ⊥
+StatePut known IsText IsFront status.WriteFault before after =
+    (text : List ℕ) × IsFront text × AddsFront before.held (known ++ text) after.held × HasRisen before.faults after.faults
+StatePut known IsText IsFront status.NoMemory before after =
+    (text : List ℕ) × IsFront text × AddsFront before.held (known ++ text) after.held
+StatePut known IsText IsFront other before after = ⊥
 
 -- Of a call without entries.
 abbrev pub EndsUnopened : ℕ → Found → NotedStop → Status → SinkState → SinkState → Type 0
-EndsUnopened call found MetaFailed is before after = StatePut (far_text (ToCall call)) (IsFirstText K64 found) is before after
-EndsUnopened call found MetaFull is before after = StatePut (far_text ToFull) (IsFirstText K64 found) is before after
+EndsUnopened call found MetaFailed is before after = StatePut (far_text (ToCall call)) (IsFirstText K64 found) (IsFirstFront K64 found) is before after
+EndsUnopened call found MetaFull is before after = StatePut (far_text ToFull) (IsFirstText K64 found) (IsFirstFront K64 found) is before after
 EndsUnopened call found NoMemory is before after = (is ≡ status.NoMemory) × (after ≡ before)
 EndsUnopened call found LogFull is before after = ⊥

@@ -30,7 +30,7 @@ use Rattle.fc_run.specs.Input.{Gave, IsAtEnd, OfFirstTaken, input_limit}
 use Rattle.fc_stopped.specs.Calls.{CallsBy}
 use Rattle.fc_stopped.specs.Ending.{all_disks}
 use Rattle.fc_stopped.specs.Reading.{stop_reading}
-use Rattle.fc_recovery_text.specs.Recovering.{IsImageText}
+use Rattle.fc_recovery_text.specs.Recovering.{IsImageFront, IsImageText}
 use Rattle.fc_recovery_text.specs.Text.{no_image}
 use Rattle.fc_stopped.specs.Text.{far_text}
 use Rattle.fc_stopped.specs.declared.far.Far.{Far}
@@ -70,15 +70,34 @@ pub data IsState (call : Call) (last : Whole) (left : Agenda) : List ℕ → Typ
       IsSafe K64 disks (kept_in image) last least asked (DisksFailedMore last (all_disks disks)) →
       IsImageText K64 image disks text behind → call.disks' ≡ all_disks behind → IsState call last left text
 
+-- What was put of such a text, where the sink failed or memory was wanted: nothing; that there is no image; or a first part of what an
+-- image and the disks say.
+pub data IsLeftFront (call : Call) (last : Whole) (left : Agenda) : List ℕ → Type 0 where
+  nothing : IsLeftFront call last left []
+  none : call.history.entries ≡ [] → IsLeftFront call last left no_image
+  first : (image : MetaImage) (disks : List (List NamedDisk)) (text : List ℕ) (behind : List (List NamedDisk))
+      (least : List Row) (asked : Option Request) → IsAskedSoon K64 last left asked →
+      IsSafe K64 disks (kept_in image) last least asked (DisksFailedMore last (all_disks disks)) →
+      IsImageFront K64 image disks text behind → call.disks' ≡ all_disks behind → IsLeftFront call last left text
+
 -- ---- what is written
 
 -- The sink got this text and nothing else, and all that it holds was sent on.
 abbrev pub GotAll : Call → List ℕ → Type 0
 GotAll call text = (call.sink'.held ≡ held_with call.sink.held text) × (call.sink'.sent ≡ call.sink'.held)
 
--- It got a front of a text that begins with the history's.
-abbrev pub GotHistoryFront : Call → Type 0
-GotHistoryFront call = (behind : List ℕ) × AddsFront call.sink.held (history_text call.history ++ behind) call.sink'.held
+-- What stands behind the text of a history that wasn't written whole: nothing; or how far the session came, and what was put of the state.
+pub data StandsBehind (number half : ℕ) (call : Call) (last : Whole) (bytes : List ℕ) : List ℕ → Type 0 where
+  nothing : StandsBehind number half call last bytes []
+  state : (far : Far) (left : Agenda) (text : List ℕ) → LinesBy far call last left bytes →
+      CallsBy number half far call.history.entries last left → IsLeftFront call last left text →
+      StandsBehind number half call last bytes (far_text far ++ text)
+
+-- The sink got a front of the history's text and that.
+abbrev pub GotHistoryFront : ℕ → ℕ → Call → Whole → List ℕ → Type 0
+GotHistoryFront number half call last bytes =
+    (behind : List ℕ) × StandsBehind number half call last bytes behind
+    × AddsFront call.sink.held (history_text call.history ++ behind) call.sink'.held
 
 -- By the status: which lines are answered, and what was written.
 abbrev pub EndsBy : ℕ → ℕ → Status → Call → Whole → List ℕ → Type 0
@@ -106,9 +125,10 @@ EndsBy number half status.WriteFault call last bytes =
     HasRisen call.sink.faults call.sink'.faults
     × (length bytes ≤ input_limit + 1)
     × OfFirstTaken call.source' bytes (AnswersSome call last)
-    × GotHistoryFront call
+    × GotHistoryFront number half call last bytes
 EndsBy number half status.NoMemory call last bytes =
-    (length bytes ≤ input_limit) × OfFirstTaken call.source' bytes (AnswersSome call last) × GotHistoryFront call
+    (length bytes ≤ input_limit) × OfFirstTaken call.source' bytes (AnswersSome call last)
+    × GotHistoryFront number half call last bytes
 EndsBy number half other call last bytes = ⊥
 
 -- The disks come back, as many of each kind, with at least the calls and faults that are told; for want of memory nothing is said of

@@ -15,14 +15,14 @@ ghost use Rattle.fc_metadisk.specs.Stop.{StopLeaves, StopState, found_after, new
 ghost use Rattle.fc_noted.specs.Noted.{NoHistory};
 ghost use Rattle.fc_noted.specs.Stopping.{AreCounted, Leaves};
 ghost use Rattle.fc_recovered.specs.Recovered.{CanRecover};
-ghost use Rattle.fc_recovery_text.specs.Recovering.{IsFoundGood, IsStateText, KeepDisks};
+ghost use Rattle.fc_recovery_text.specs.Recovering.{IsFoundGood, IsStateFront, IsStateText, KeepDisks};
 ghost use Rattle.fc_run.specs.Output.{IsWritten};
 ghost use Rattle.fc_run.specs.Takes.{EachGave};
 ghost use Rattle.fc_stopped.specs.Calls.{half_of_disk};
 ghost use Rattle.fc_stopped.specs.Ending.{EndsUnopened, IsOpened, IsUnopened, StatePut, StatusWritten, TextEnds, all_disks, over_disks, own_disks};
 ghost use Rattle.fc_stopped.specs.Far.{status_unwritten};
 ghost use Rattle.fc_stopped.specs.Lines.{HasLanes};
-ghost use Rattle.fc_stopped.specs.Stopped.{ComeBack, IsState, StopEnds};
+ghost use Rattle.fc_stopped.specs.Stopped.{ComeBack, IsLeftFront, IsState, StopEnds};
 ghost use Rattle.fc_stopped.specs.Text.{far_text};
 
 use crate::countdown::Countdown;
@@ -152,8 +152,8 @@ fn end_at<D: Mdisk, K: Sink>(
     requires good { IsFoundGood (recovered (found_after meta)) }
     requires can { (image : Said) → recovered (found_after meta) ≡ FoundImage image → CanRecover GrainSize.K64 image lanes.items }
     ensures kept { KeepDisks lanes.items result.0.items }
-    ensures put { StatePut (history_text history.now ++ far_text far) (λ text. IsStateText GrainSize.K64 (recovered (found_after meta)) lanes.items text result.0.items) result.1
-        (K.meaning sink.old) (K.meaning sink.new) }
+    ensures put { StatePut (history_text history.now ++ far_text far) (λ text. IsStateText GrainSize.K64 (recovered (found_after meta)) lanes.items text result.0.items)
+        (λ text. IsStateFront GrainSize.K64 (recovered (found_after meta)) lanes.items text result.0.items) result.1 (K.meaning sink.old) (K.meaning sink.new) }
 {
     match put_text_and_far(history, far, sink) {
         Ok(()) => {
@@ -178,7 +178,7 @@ fn end_far<D: Mdisk, K: Sink>(
     requires lanes { (old : List DiskState) × HasLanes (over_disks old) noted.store.lanes × (length old ≤ vec_capacity disks.old) }
     requires none { disks.old.items ≡ [] }
     ensures put { (call : Call) (last : Whole) (left : Agenda) → call.disks' ≡ map D.meaning disks.new.items → Leaves GrainSize.K64 StopLeaves noted last left →
-        StatePut (history_text history.now ++ far_text far) (IsState call last left) result (K.meaning sink.old) (K.meaning sink.new) }
+        StatePut (history_text history.now ++ far_text far) (IsState call last left) (IsLeftFront call last left) result (K.meaning sink.old) (K.meaning sink.new) }
     ensures disks { (old : List DiskState) (last : Whole) → HasLanes (over_disks old) noted.store.lanes → AreCounted last noted.store.lanes →
         ComeBack result old (map D.meaning disks.new.items) last }
 {
