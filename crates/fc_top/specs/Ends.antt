@@ -9,7 +9,8 @@ use Rattle.fc_call.specs.declared.status.Status.TheVariants as status
 use Rattle.fc_gen.specs.Session.{session_text}
 use Rattle.fc_io.specs.Source.{SourceState}
 use Rattle.fc_run.specs.declared.form.Form.TheVariants.{Summary}
-use Rattle.fc_stopped.specs.Stopped.{StopEnds, half_of_disk}
+use Rattle.fc_stopped.specs.Calls.{half_of_disk}
+use Rattle.fc_stopped.specs.Stopped.{StopEnds}
 use Rattle.fc_top.specs.PlainEnds.{PlainEnds}
 use Rattle.fc_top.specs.Traced.{run_form}
 use Rattle.fc_verdict.specs.CheckEnds.{CheckEnds}
