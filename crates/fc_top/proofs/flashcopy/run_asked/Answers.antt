@@ -5,7 +5,8 @@ use Rattle.fc_args.specs.declared.asked.Asked.{Asked}
 use Rattle.fc_args.specs.declared.asked.Asked.TheVariants.{Run, Drill, Check, Stop}
 use Rattle.fc_call.specs.Call.{Call}
 use Rattle.fc_run.proofs.TakesLemmas.{EachGave-none}
-use Rattle.fc_stopped.specs.Stopped.{StopEnds, half_of_disk}
+use Rattle.fc_stopped.specs.Calls.{half_of_disk}
+use Rattle.fc_stopped.specs.Stopped.{StopEnds}
 use Rattle.fc_top.proofs.TheoremLemmas.{stop_ran, theorem_of}
 use Rattle.fc_top.proofs.WordLemmas.{run-uncached}
 use Rattle.fc_run.specs.declared.form.Form.{Form}
