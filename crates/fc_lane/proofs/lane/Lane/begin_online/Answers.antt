@@ -4,7 +4,6 @@ use Rattle.fc_base.specs.declared.request.Reply.TheVariants.{MediumError}
 use Rattle.fc_lane.proofs.InSteps.{answered_at_once, write_begins}
 use Rattle.fc_lane.proofs.WriteLane.{fits_here, lost_here, plan_some, writable_here, write_plannable, write_room}
 use Rattle.fc_lane.proofs.lane.Lane.begin_online.Goals as goal
-use Rattle.fc_lane.proofs.lane.Lane.begin_online.Goals.{After-can_write}
 use Rattle.fc_steps.specs.declared.ask.Ask.TheVariants.{Write}
 
 pub can_write-requires : goal.can_write-requires
