@@ -31,13 +31,13 @@ use Rattle.fc_noted.specs.Stopping.{AreCounted, LeavesFirst}
 use Rattle.fc_noted.specs.declared.noted.Noted.{Noted}
 use Rattle.fc_owner.proofs.SessionOver.{gave_nothing}
 use Rattle.fc_owner.specs.FirstTold.{first_told}
-use Rattle.fc_recovery_text.specs.Recovering.{IsFirstText}
+use Rattle.fc_recovery_text.specs.Recovering.{IsFirstFront, IsFirstText}
 use Rattle.fc_stands.specs.Store.{StandsFor, StoreView}
 use Rattle.fc_stopped.proofs.Apart.{LieApart, lie_apart}
 use Rattle.fc_stopped.proofs.Counted.{all_back, given_back}
 use Rattle.fc_stopped.proofs.Counting.{counted_first, faulted_at, more_are, quiet_before, quiet_first, risen_some}
 use Rattle.fc_stopped.proofs.Ends.{far_ends}
-use Rattle.fc_stopped.proofs.Found.{first_state}
+use Rattle.fc_stopped.proofs.Found.{first_put, first_state}
 use Rattle.fc_stopped.proofs.Lanes.{lanes_begin}
 use Rattle.fc_stopped.proofs.Putting.{put_as}
 use Rattle.fc_stopped.proofs.Sessions.{CameFar}
@@ -46,7 +46,7 @@ use Rattle.fc_stopped.specs.Countdown.{calls_by_stop, faults_by_stop}
 use Rattle.fc_stopped.specs.Ending.{EndsUnopened, IsOpened, StatePut, goes_by, over_disks}
 use Rattle.fc_stopped.specs.Lines.{HasAnswered, HasCounted, HasLanes}
 use Rattle.fc_stopped.specs.Reading.{stop_reading}
-use Rattle.fc_stopped.specs.Stopped.{IsState, StopEnds}
+use Rattle.fc_stopped.specs.Stopped.{IsLeftFront, IsState, StopEnds}
 use Rattle.fc_stopped.specs.Text.{far_text}
 use Rattle.fc_stopped.specs.declared.far.Far.{Far}
 use Rattle.fc_stopped.specs.declared.far.Far.TheVariants.{ToCall, ToFull}
@@ -152,16 +152,18 @@ module _ (number half : ℕ) (call : Call) (bytes : List ℕ) (lanes : List Lane
   none : call.history.entries ≡ []
   none = ap (λ (h : HistoryState). h.entries) main
 
-  unopened_put : (far : Far) → CameFar number half far call [] (Session []) (first_told call.disks) → StatePut (far_text far) (IsFirstText K64 (recovered bytes)) call.status call.sink call.sink' → StopEnds number half call
+  unopened_put : (far : Far) → CameFar number half far call [] (Session []) (first_told call.disks) →
+      StatePut (far_text far) (IsFirstText K64 (recovered bytes)) (IsFirstFront K64 (recovered bytes)) call.status call.sink call.sink' → StopEnds number half call
   unopened_put far came put =
       let w = first_told call.disks in
       let apart : LieApart lanes call.disks' = lie_apart lanes call.disks' by in
       let many : length apart.back ≡ length (pools_dealt LANES call.disks) =
       apart.count ∙ has.count ∙ sym (length-map (all_dealt LANES call.disks) pool_of ∙ length-map-range_with_len (dealt LANES call.disks) 0 LANES) in
       let known : far_text far ≡ history_text call.history ++ far_text far = ap (λ (h : HistoryState). history_text h ++ far_text far) (sym main) in
-      let state : StatePut (far_text far) (IsState call w (Session [])) call.status call.sink call.sink' =
-      put_as (far_text far) (IsFirstText K64 (recovered bytes)) (IsState call (first_told call.disks) (Session [])) call.status call.sink call.sink'
-      (λ text is. first_state call (Session []) bytes text apart.back many (sym apart.are) none leaves is) put in
+      let state : StatePut (far_text far) (IsState call w (Session [])) (IsLeftFront call w (Session [])) call.status call.sink call.sink' =
+      put_as (far_text far) (IsFirstText K64 (recovered bytes)) (IsFirstFront K64 (recovered bytes)) (IsState call w (Session [])) (IsLeftFront call w (Session [])) call.status call.sink call.sink'
+      (λ text is. first_state call (Session []) bytes text apart.back many (sym apart.are) none leaves is)
+      (λ text is. first_put call (Session []) bytes text apart.back many (sym apart.are) none leaves is) put in
       record {
         last = w;
         legal = no_entries call none;
@@ -169,7 +171,7 @@ module _ (number half : ℕ) (call : Call) (bytes : List ℕ) (lanes : List Lane
         bytes = [];
         gave = gave_nothing call.source call.source' source;
         ends = far_ends number half far call [] (Session []) w came record { few = omega arith; taken = none_answered call none } call.status
-            (subst (λ (t : List ℕ). StatePut t (IsState call (first_told call.disks) (Session [])) call.status call.sink call.sink') known state);
+            (subst (λ (t : List ℕ). StatePut t (IsState call (first_told call.disks) (Session [])) (IsLeftFront call (first_told call.disks) (Session [])) call.status call.sink call.sink') known state);
         disks = all_back call.status call.disks call.disks' w (given_back (over_disks call.disks) lanes call.disks' w has all apart counted);
       }
 

@@ -1,5 +1,5 @@
 -- A call that ran a session over a noted store.
-use Rattle.std.proofs.Common.{◌≡◌, ℕ, ◌≤◌, ◌++◌, List, inl, inr, length, arith, Option, Ok, Err}
+use Rattle.std.proofs.Common.{◌≡◌, ℕ, ◌≤◌, ◌++◌, List, inl, inr, length, subst, arith, Option, Ok, Err}
 use Rattle.fc_base.specs.Count.{HasRisen}
 use Rattle.fc_call.specs.Call.{Call}
 use Rattle.fc_call.specs.declared.status.Status.{Status}
@@ -20,9 +20,13 @@ use Rattle.fc_stopped.specs.Ending.{StatePut, TextEnds, goes_by, over_disks}
 use Rattle.fc_stopped.specs.Far.{far_of}
 use Rattle.fc_stopped.specs.Countdown.{calls_by_stop, faults_by_stop}
 use Rattle.fc_stopped.specs.Lines.{HasLeft, StopStart, noted_runs}
-use Rattle.fc_stopped.specs.Stopped.{ComeBack, IsState, StopEnds}
+use Rattle.fc_stopped.specs.Stopped.{ComeBack, IsLeftFront, IsState, StopEnds}
 use Rattle.fc_stopped.specs.Text.{far_text}
 use Rattle.fc_stopped.specs.declared.far.Far.{Far}
+
+-- A half of that size is one of another number of bytes, where the two are the same.
+pub half_as : (number half other : ℕ) (call : Call) → half ≡ other → StopEnds number half call → StopEnds number other call
+half_as number half other call same ends = subst (λ (n : ℕ). StopEnds number n call) same ends
 
 -- the sink of such a session counts no fault
 no_fault : (old new : ℕ) → new ≡ 0 → HasRisen old new → ⊥
@@ -41,7 +45,8 @@ module _ (number half : ℕ) (call : Call) (e : Ended) (stop : Option NotedStop)
   some = takes_some e stop (goes_by number half call.disks) call.source call.source' call.history bytes left last to
 
   -- It came so far, and what is recovered is written.
-  pub stop_far : (far : Far) → far_of number e stop ≡ Ok far → StatePut (history_text call.history ++ far_text far) (IsState call last left) call.status call.sink call.sink' →
+  pub stop_far : (far : Far) → far_of number e stop ≡ Ok far →
+      StatePut (history_text call.history ++ far_text far) (IsState call last left) (IsLeftFront call last left) call.status call.sink call.sink' →
       ComeBack call.status call.disks call.disks' last → StopEnds number half call
   stop_far far is put back =
       record {

@@ -16,9 +16,9 @@ use Rattle.fc_stopped.proofs.Found.{found_leaves, unopened}
 use Rattle.fc_stopped.proofs.Lanes.{count_in}
 use Rattle.fc_stopped.proofs.Opening.{begin_counted, begin_lanes, begins_over, first_failed, is_opened, opened_counted, synced_at_first, unopened_ends, zeros_at_first}
 use Rattle.fc_stopped.proofs.Starved.{starved_named, starved_stop}
+use Rattle.fc_stopped.proofs.Stops.{half_as}
 use Rattle.fc_stopped.specs.Ending.{over_disks}
 use Rattle.fc_stopped.specs.Lines.{HasLanes}
-use Rattle.fc_stopped.specs.Stopped.{StopEnds}
 use Rattle.fc_stopped.proofs.until.run_over.Goals as goal
 
 pub returns-in-Err-clause-ends : goal.returns-in-Err-clause-ends
@@ -92,7 +92,7 @@ returns-in-Ok-over-clause-ends g c =
     let begins : BeginsOver c.len-count.result old store =
     begins_over c.len-count.result old (map m c.replace-taken.result.items) store (ap (λ (v : Vec g.row.D.Denot Global). map m v.items) c.replace-taken.ensures.value) counted
     (omega (arith, c.requires.few, c.len-count.ensures)) c.requires.fresh c.in-Ok-first_store.ensures.stands c.in-Ok-first_store.ensures.grain c.in-Ok-first_store.ensures.begin in
-    subst (λ (half : ℕ). StopEnds c.args.call half _) (c.in-Ok-over.ensures.counted.3 ∙ ap (λ (d : StopState). half_size d.bytes) c.of.ensures)
+    half_as c.args.call _ _ _ (c.in-Ok-over.ensures.counted.3 ∙ ap (λ (d : StopState). half_size d.bytes) c.of.ensures)
     (c.run_noted.ensures.ends old
     (is_opened c.len-count.result c.args.call old store c.in-Ok-over.noted c.in-Ok-first_store.ensures.grain begins c.in-Ok-over.ensures.store c.in-Ok-over.ensures.live (c.in-Ok-over.ensures.noted old begins)
     (opened_counted c.requires.zeros.0 c.args.call old c.of.result c.in-Ok-over.noted (c.of.ensures ∙ c.requires.zeros.1) c.requires.counted (omega arith) c.in-Ok-over.ensures.counted.0 c.in-Ok-over.ensures.counted.1 c.in-Ok-over.ensures.counted.2)))
