@@ -3,7 +3,8 @@ use Rattle.std.proofs.Common.{◌≡◌, Bool, Some, is_some, inl, inr, refl, sy
 use Rattle.fc_meta.specs.States.{disk_of, found}
 use Rattle.law_noted.specs.Records.{removed_by}
 use Rattle.fc_noted.proofs.Acting.{about_image, acted_image, acted_on, always_true, by_image, first_true, none_gone, on_error, stayed, still_there}
-use Rattle.fc_noted.specs.Making.{AnewOr, HasActed, HasStayed, IsImageAfter, LeavesAnew}
+use Rattle.fc_noted.proofs.CallsMade.{memory_wanted, no_error}
+use Rattle.fc_noted.specs.Making.{AnewOr, done, HasActed, HasStayed, IsImageAfter, LeavesAnew}
 use Rattle.std.proofs.lemmas.Result.{err_from_is_err_and}
 use Rattle.fc_marks.specs.declared.error.NotedStop.TheVariants.{NoMemory as WantsMemory}
 use Rattle.fc_noted.proofs.MeteringNoted.{calls_of_error, no_calls, same_calls}
@@ -168,7 +169,7 @@ pub returns-in-Some-clause-counted : goal.returns-in-Some-clause-counted
 returns-in-Some-clause-counted g c =
     let mid = record c.args.self.now { store = c.reserve_all.new.self } in
     let new = record c.make_anew.new.self { store = c.apply_all.new.self } in
-    same_calls g.M.MetaDisk.seen g.M.MetaDisk.fault_count g.M.MetaDisk.calls (Ok tt) (Ok tt) c.args.self.now mid c.make_anew.new.self new refl refl refl refl (λ P p. p) (λ e. cc) c.in_ok-make_anew.ensures.counted
+    same_calls g.M.MetaDisk.seen g.M.MetaDisk.fault_count g.M.MetaDisk.calls done done c.args.self.now mid c.make_anew.new.self new refl refl refl refl (λ P p. p) (λ e. e) c.in_ok-make_anew.ensures.counted
 
 pub returns-in_err-make_anew-clause-failed : goal.returns-in_err-make_anew-clause-failed
 returns-in_err-make_anew-clause-failed g c = λ e. (
@@ -187,7 +188,7 @@ pub returns-in_ok-make_anew-2-clause-counted : goal.returns-in_ok-make_anew-2-cl
 returns-in_ok-make_anew-2-clause-counted g c =
     let mid = record c.args.self.now { store = c.apply_all-2.new.self } in
     let new = c.make_anew-then-has_action.new.self in
-    same_calls g.M.MetaDisk.seen g.M.MetaDisk.fault_count g.M.MetaDisk.calls (Ok tt) (Ok tt) c.args.self.now mid new new refl refl refl refl (λ P p. p) (λ e. cc) c.in_ok-make_anew-2.ensures.counted
+    same_calls g.M.MetaDisk.seen g.M.MetaDisk.fault_count g.M.MetaDisk.calls done done c.args.self.now mid new new refl refl refl refl (λ P p. p) (λ e. e) c.in_ok-make_anew-2.ensures.counted
 
 pub returns-in_err-make_anew-2-clause-failed : goal.returns-in_err-make_anew-2-clause-failed
 returns-in_err-make_anew-2-clause-failed g c = λ e. (
@@ -196,21 +197,21 @@ returns-in_err-make_anew-2-clause-failed g c = λ e. (
 )
 
 pub returns-else-has_action-clause-counted : goal.returns-else-has_action-clause-counted
-returns-else-has_action-clause-counted g c = no_calls g.M.MetaDisk.seen g.M.MetaDisk.fault_count g.M.MetaDisk.calls (Ok tt) c.args.self.now (record c.args.self.now { store = c.apply_all-2.new.self }) refl refl (λ e. cc)
+returns-else-has_action-clause-counted g c = no_calls g.M.MetaDisk.seen g.M.MetaDisk.fault_count g.M.MetaDisk.calls done c.args.self.now (record c.args.self.now { store = c.apply_all-2.new.self }) refl refl (no_error tt)
 
 -- for want of memory it isn't
 
 pub returns-in_err-reserve_all-clause-counted : goal.returns-in_err-reserve_all-clause-counted
 returns-in_err-reserve_all-clause-counted g c =
     let p = err_from_is_err_and c.from_residual.result c.from_residual.ensures.1 in
-    rw (p.1, p.2) (no_calls g.M.MetaDisk.seen g.M.MetaDisk.fault_count g.M.MetaDisk.calls (Err WantsMemory) c.args.self.now (record c.args.self.now { store = c.reserve_all.new.self }) refl refl (λ e. cc))
+    rw (p.1, p.2) (no_calls g.M.MetaDisk.seen g.M.MetaDisk.fault_count g.M.MetaDisk.calls (Err WantsMemory) c.args.self.now (record c.args.self.now { store = c.reserve_all.new.self }) refl refl memory_wanted)
 
 pub returns-in_err-image-clause-counted : goal.returns-in_err-image-clause-counted
 returns-in_err-image-clause-counted g c =
     let p = err_from_is_err_and c.from_residual-in_err-image.result c.from_residual-in_err-image.ensures.1 in
-    rw (p.1, p.2) (no_calls g.M.MetaDisk.seen g.M.MetaDisk.fault_count g.M.MetaDisk.calls (Err WantsMemory) c.args.self.now (record c.args.self.now { store = c.reserve_all.new.self }) refl refl (λ e. cc))
+    rw (p.1, p.2) (no_calls g.M.MetaDisk.seen g.M.MetaDisk.fault_count g.M.MetaDisk.calls (Err WantsMemory) c.args.self.now (record c.args.self.now { store = c.reserve_all.new.self }) refl refl memory_wanted)
 
 pub returns-in_err-image-2-clause-counted : goal.returns-in_err-image-2-clause-counted
 returns-in_err-image-2-clause-counted g c =
     let p = err_from_is_err_and c.from_residual-in_err-image-2.result c.from_residual-in_err-image-2.ensures.1 in
-    rw (p.1, p.2) (no_calls g.M.MetaDisk.seen g.M.MetaDisk.fault_count g.M.MetaDisk.calls (Err WantsMemory) c.args.self.now (record c.args.self.now { store = c.apply_all-2.new.self }) refl refl (λ e. cc))
+    rw (p.1, p.2) (no_calls g.M.MetaDisk.seen g.M.MetaDisk.fault_count g.M.MetaDisk.calls (Err WantsMemory) c.args.self.now (record c.args.self.now { store = c.apply_all-2.new.self }) refl refl memory_wanted)

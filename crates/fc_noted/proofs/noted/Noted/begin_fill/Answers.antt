@@ -13,9 +13,10 @@ use Rattle.fc_legal.specs.Agenda.{Asks}
 use Rattle.fc_legal.specs.Whole.{Whole}
 use Rattle.fc_marks.specs.Stops.{stop_of_log}
 use Rattle.fc_noted.proofs.Begun.{begun_made, stopped_made}
+use Rattle.fc_noted.proofs.CallsMade.{no_error}
 use Rattle.fc_noted.proofs.Filling.{fill_can, fill_in_volume, fill_of_lane, fill_request, full_only, not_failed, worker_of, no_disk_failed}
 use Rattle.fc_noted.proofs.KeepingLanes.{begun_keeps, lanes_go_on, lanes_hold}
-use Rattle.fc_noted.specs.Making.{KeepLanes, StepMade}
+use Rattle.fc_noted.specs.Making.{KeepLanes, StepMade, done}
 use Rattle.fc_script.specs.Asking.{HasNextFill, work_of}
 use Rattle.fc_script.specs.Script.{agenda_of}
 use Rattle.fc_script.specs.declared.asking.Asked.TheVariants.{Fill}
@@ -94,4 +95,4 @@ returns-in_err-place-clause-counted g c =
 
 pub returns-clause-counted : goal.returns-clause-counted
 returns-clause-counted g c =
-    no_calls g.M.MetaDisk.seen g.M.MetaDisk.fault_count g.M.MetaDisk.calls (Ok tt) c.args.self.now c.take_up.new.self (ap (λ n. n.calls) c.take_up.ensures) (ap (λ n. n.meta) c.take_up.ensures) (λ e. cc)
+    no_calls g.M.MetaDisk.seen g.M.MetaDisk.fault_count g.M.MetaDisk.calls done c.args.self.now c.take_up.new.self (ap (λ n. n.calls) c.take_up.ensures) (ap (λ n. n.meta) c.take_up.ensures) (no_error tt)

@@ -1,7 +1,9 @@
 -- What the script asks next begins.
 use Rattle.std.proofs.Common.{Ok, Err, Option, true, subst, false, refl}
 use Rattle.std.proofs.lemmas.Result.{err_from_is_err_and}
+use Rattle.fc_noted.proofs.CallsMade.{memory_wanted, no_error}
 use Rattle.fc_noted.proofs.Nexts.{made_behind, nothing_next, script_noted, wanted_next}
+use Rattle.fc_noted.specs.Making.{done}
 use Rattle.fc_script.specs.Asking.{IsNext, request_of}
 use Rattle.fc_script.specs.Script.{agenda_of}
 use Rattle.fc_script.specs.declared.asking.Asked.{Asked}
@@ -64,7 +66,7 @@ returns-in_err-begin-in-Some-clause-full g c = λ is w up. (
 pub returns-in_err-next-clause-counted : goal.returns-in_err-next-clause-counted
 returns-in_err-next-clause-counted g c =
     let p = err_from_is_err_and c.from_residual.result c.from_residual.ensures.1 in
-    rw (p.1, p.2) (no_calls g.M.MetaDisk.seen g.M.MetaDisk.fault_count g.M.MetaDisk.calls (Err WantsMemory) c.args.self.now (record c.args.self.now { script = c.next.new.self }) refl refl (λ e. cc))
+    rw (p.1, p.2) (no_calls g.M.MetaDisk.seen g.M.MetaDisk.fault_count g.M.MetaDisk.calls (Err WantsMemory) c.args.self.now (record c.args.self.now { script = c.next.new.self }) refl refl memory_wanted)
 
 pub returns-in_err-begin-in-Some-clause-counted : goal.returns-in_err-begin-in-Some-clause-counted
 returns-in_err-begin-in-Some-clause-counted g c =
@@ -75,7 +77,7 @@ returns-in_err-begin-in-Some-clause-counted g c =
 pub returns-in_ok-begin-in-Some-clause-counted : goal.returns-in_ok-begin-in-Some-clause-counted
 returns-in_ok-begin-in-Some-clause-counted g c =
     let mid = record c.args.self.now { script = c.next.new.self } in
-    same_calls g.M.MetaDisk.seen g.M.MetaDisk.fault_count g.M.MetaDisk.calls (Ok tt) (Ok true) c.args.self.now mid c.begin.new.self c.begin.new.self refl refl refl refl (λ P p. p) (λ e. cc) c.in_ok-begin-in-Some.ensures.counted
+    same_calls g.M.MetaDisk.seen g.M.MetaDisk.fault_count g.M.MetaDisk.calls done (Ok true) c.args.self.now mid c.begin.new.self c.begin.new.self refl refl refl refl (λ P p. p) (λ e. absurd (no_error true e)) c.in_ok-begin-in-Some.ensures.counted
 
 pub returns-in-None-clause-counted : goal.returns-in-None-clause-counted
-returns-in-None-clause-counted g c = no_calls g.M.MetaDisk.seen g.M.MetaDisk.fault_count g.M.MetaDisk.calls (Ok false) c.args.self.now (record c.args.self.now { script = c.next.new.self }) refl refl (λ e. cc)
+returns-in-None-clause-counted g c = no_calls g.M.MetaDisk.seen g.M.MetaDisk.fault_count g.M.MetaDisk.calls (Ok false) c.args.self.now (record c.args.self.now { script = c.next.new.self }) refl refl (no_error false)

@@ -14,11 +14,12 @@ use Rattle.fc_legal.specs.Whole.{Whole, lane_of_grain}
 use Rattle.fc_marks.specs.Stops.{stop_of_log}
 use Rattle.fc_noted.proofs.Accessing.{access_by, access_can, access_in_volume, answered_turn, begins_within, ends_within, in_grain, no_effects, not_every, number_small, touches_there}
 use Rattle.fc_noted.proofs.Begun.{begun_made, stopped_made}
+use Rattle.fc_noted.proofs.CallsMade.{no_error}
 use Rattle.fc_noted.proofs.Filling.{full_only, not_failed, no_disk_failed}
 use Rattle.fc_noted.proofs.Holding.{one_same}
 use Rattle.fc_noted.proofs.Idle.{idle_made}
 use Rattle.fc_noted.proofs.KeepingLanes.{begun_keeps, holds_in_lane, lanes_go_on, lanes_hold, lanes_still}
-use Rattle.fc_noted.specs.Making.{KeepLanes, StepMade, always}
+use Rattle.fc_noted.specs.Making.{KeepLanes, StepMade, always, done}
 use Rattle.fc_parts.specs.Law.{IsInVolume}
 use Rattle.fc_rules.specs.LaneRight.{done_write}
 use Rattle.fc_rules.specs.Steps.{HasDoneNothing}
@@ -177,7 +178,7 @@ returns-in_err-place-clause-counted g c =
 
 pub returns-in-UnderWay-clause-counted : goal.returns-in-UnderWay-clause-counted
 returns-in-UnderWay-clause-counted g c =
-    no_calls g.M.MetaDisk.seen g.M.MetaDisk.fault_count g.M.MetaDisk.calls (Ok tt) c.args.self.now c.take_up.new.self (ap (λ n. n.calls) c.take_up.ensures) (ap (λ n. n.meta) c.take_up.ensures) (λ e. cc)
+    no_calls g.M.MetaDisk.seen g.M.MetaDisk.fault_count g.M.MetaDisk.calls done c.args.self.now c.take_up.new.self (ap (λ n. n.calls) c.take_up.ensures) (ap (λ n. n.meta) c.take_up.ensures) (no_error tt)
 
 pub returns-in-Answered-clause-counted : goal.returns-in-Answered-clause-counted
 returns-in-Answered-clause-counted g c =

@@ -5,7 +5,7 @@ use Rattle.fc_marks.specs.declared.error.NotedStop.{NotedStop}
 use Rattle.fc_noted.proofs.CommandLogs.{command_numbered, full_made, keep_lanes, undone_made}
 use Rattle.fc_noted.specs.Making.{KeepLanes}
 use Rattle.fc_noted.proofs.MeteringNoted.{calls_of_error, memory_alone, no_calls, same_calls}
-use Rattle.fc_noted.proofs.CallsMade.{on_ok}
+use Rattle.fc_noted.proofs.CallsMade.{log_full, on_ok}
 use Rattle.fc_marks.specs.declared.error.NotedStop.TheVariants.{LogFull}
 use Rattle.fc_noted.proofs.noted.Noted.command.Goals as goal
 
@@ -40,7 +40,7 @@ returns-clause-lanes g c =
 -- ---- the disk of metadata is called while the command is done alone
 
 pub returns-then-is_full-clause-counted : goal.returns-then-is_full-clause-counted
-returns-then-is_full-clause-counted g c = no_calls g.M.MetaDisk.seen g.M.MetaDisk.fault_count g.M.MetaDisk.calls (Err LogFull) c.args.self.now c.args.self.now refl refl (λ e. cc)
+returns-then-is_full-clause-counted g c = no_calls g.M.MetaDisk.seen g.M.MetaDisk.fault_count g.M.MetaDisk.calls (Err LogFull) c.args.self.now c.args.self.now refl refl log_full
 
 pub returns-in_err-entry-clause-counted : goal.returns-in_err-entry-clause-counted
 returns-in_err-entry-clause-counted g c =

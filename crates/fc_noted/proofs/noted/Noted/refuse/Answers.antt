@@ -3,6 +3,7 @@ use Rattle.std.proofs.Common.{◌≡◌, ap, refl, subst, sym, Err}
 use Rattle.fc_entry.specs.declared.entry.Entry.{Entry}
 use Rattle.fc_marks.specs.declared.error.NotedStop.TheVariants.{LogFull, MetaFailed}
 use Rattle.fc_noted.proofs.Begun.{stopped_made}
+use Rattle.fc_noted.proofs.CallsMade.{log_full}
 use Rattle.fc_noted.proofs.KeepingLanes.{lanes_stay, lanes_still}
 use Rattle.fc_noted.proofs.Refusing.{refused_made}
 use Rattle.fc_noted.specs.Making.{StepMade, always}
@@ -37,7 +38,7 @@ returns-clause-lanes g c = lanes_still c.args.self.now.store c.log_entry.new.sel
 -- ---- the disk of metadata isn't called
 
 pub returns-then-is_full-clause-counted : goal.returns-then-is_full-clause-counted
-returns-then-is_full-clause-counted g c = no_calls g.M.MetaDisk.seen g.M.MetaDisk.fault_count g.M.MetaDisk.calls (Err LogFull) c.args.self.now c.args.self.now refl refl (λ e. cc)
+returns-then-is_full-clause-counted g c = no_calls g.M.MetaDisk.seen g.M.MetaDisk.fault_count g.M.MetaDisk.calls (Err LogFull) c.args.self.now c.args.self.now refl refl log_full
 
 pub returns-clause-counted : goal.returns-clause-counted
 returns-clause-counted g c =
