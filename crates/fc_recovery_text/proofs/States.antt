@@ -1,5 +1,6 @@
 -- What is put of what is found.
-use Rattle.std.proofs.Common.{◌≡◌, List, [], None, Some, Result, Err, inl, inr, refl, sym, subst}
+use Rattle.std.proofs.Common.{◌≡◌, List, [], None, Some, Result, Err, IsErrAnd, inl, inr, refl, sym, ap, subst, ◌∙◌}
+use Rattle.std.proofs.lemmas.Result.{err_from_is_err_and}
 use Rattle.fc_base.specs.declared.size.GrainSize.{GrainSize}
 use Rattle.fc_entry.proofs.WrittenLemmas.{Written-none}
 use Rattle.fc_format.specs.Halves.{Damaged, Found, Image, NoImage}
@@ -29,8 +30,12 @@ pub unfound_state : (grain : GrainSize) (f : Found) (disks : List (List NamedDis
     StateIsPut (Err NoMemory) (λ text. IsStateText grain f disks text disks) (λ text. IsStateFront grain f disks text disks) sink sink
 unfound_state grain f disks sink = ([], nothing_front grain f disks, Written-none sink)
 
-pub unfound_first : (grain : GrainSize) (f : Found) (sink : SinkState) → StateIsPut (Err NoMemory) (λ text. IsFirstText grain f text) (λ text. IsFirstFront grain f text) sink sink
-unfound_first grain f sink = ([], inl refl, Written-none sink)
+pub unfound_first : (grain : GrainSize) (f : Found) (r : Result (Unit {0}) Unwritten) (sink : SinkState) → IsErrAnd r (λ e. e ≡ NoMemory) →
+    StateIsPut r (λ text. IsFirstText grain f text) (λ text. IsFirstFront grain f text) sink sink
+unfound_first grain f r sink wants =
+    let e = err_from_is_err_and r wants in
+    subst (λ (z : Result (Unit {0}) Unwritten). StateIsPut z (λ text. IsFirstText grain f text) (λ text. IsFirstFront grain f text) sink sink) (sym (e.1 ∙ ap Err e.2))
+    ([], inl refl, Written-none sink)
 
 module _ (grain : GrainSize) (f : Found) (r : Result (Unit {0}) Unwritten) (before after : SinkState) where
   -- a state

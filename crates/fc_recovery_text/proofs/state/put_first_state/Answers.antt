@@ -17,4 +17,4 @@ returns-in-None g c =
     (rw c.in-None.is at c.in_ok-image.ensures) c.put_no_image.ensures
 
 pub returns-in_err-image : goal.returns-in_err-image
-returns-in_err-image g c = rw c.from_residual.ensures.0 (unfound_first c.args.grain (recovered c.args.found.bytes) (g.K.Sink.meaning c.args.sink.now))
+returns-in_err-image g c = unfound_first c.args.grain (recovered c.args.found.bytes) c.from_residual.result (g.K.Sink.meaning c.args.sink.now) c.from_residual.ensures.1

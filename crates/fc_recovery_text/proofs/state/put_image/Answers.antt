@@ -1,5 +1,5 @@
 -- The rows are put, and then what the volumes read; or what was put until the sink failed or memory was wanted.
-use Rattle.std.proofs.Common.{ℕ, List, false, is_err, sym, subst}
+use Rattle.std.proofs.Common.{ℕ, List, false, true, is_err, sym, subst}
 use Rattle.fc_entry.specs.Written.{Written}
 use Rattle.fc_kept.specs.Disks.{NamedDisk}
 use Rattle.fc_recovery_text.specs.Recovering.{IsImageFront, IsImageText, KeepDisks}
