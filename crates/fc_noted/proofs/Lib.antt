@@ -48,6 +48,5 @@ mod CommandLogs
 mod CommandEntry
 mod Metering
 mod MeteringHand
-mod MeteringSteps
 mod Calls
 mod MeteringNoted
