@@ -1,5 +1,5 @@
 -- A line answered step by step: one step more, and an end.
-use Rattle.std.proofs.Common.{◌≡◌, ℕ, ◌≤◌, true, false, Option, Some, None, List, [], ◌∷◌, ◌++◌, length, append_assoc, Result, Ok, refl, sym, ap, subst, ◌∙◌, ◌⊎◌, inl, inr, arith}
+use Rattle.std.proofs.Common.{◌≡◌, ℕ, ◌≤◌, Bool, true, false, Option, Some, None, List, [], ◌∷◌, ◌++◌, length, append_assoc, Result, Ok, refl, sym, ap, subst, ◌∙◌, ◌⊎◌, inl, inr, arith}
 use Rattle.std.proofs.lemmas.List.{append-nil, length-append}
 use Rattle.std.specs.Prelude.{Err, IfErr, OnOk}
 use Rattle.fc_agenda.specs.Goes.{Goes, GoesAsking, GoesToEnd, answers, passes, stays}
@@ -72,6 +72,10 @@ module _ {C D : Type 0} (seen : D → List ℕ) (may_leave : D → List ℕ → 
     pub grain : now.store.control.grain ≡ old.store.control.grain
     pub came : Came old before now after
 
+  -- What one step made, by whether something was left.
+  abbrev pub Made : Bool → Noted C D → HistoryState → Noted C D → HistoryState → Type 0
+  Made more mid between new after = (w : Whole) (least : List Row) → IsAt seen may_leave mid between w least → GoesOnTo seen may_leave more w least mid between new after
+
   at_first : (n : Noted C D) (history : HistoryState) (w : Whole) (least : List Row) → IsNotedAt seen may_leave n history w least → IsAt seen may_leave n history w least
   at_first n history w least at = subst (λ (o : Option UnderWay). IsAtBy seen may_leave o n history w least) (sym at.idle) at
 
@@ -118,9 +122,8 @@ module _ {C D : Type 0} (seen : D → List ℕ) (may_leave : D → List ℕ → 
     went w m least to (inl s) = stayed w m least to s
     went w m least to (inr l) = logged w m least to l
 
-    -- One step more.
-    pub comes_on : ((w : Whole) (least : List Row) → IsAt seen may_leave mid between w least → GoesOnTo seen may_leave true w least mid between new after) → Comes old before new after
-    comes_on made =
+    goes : Made true mid between new after → Comes old before new after
+    goes made =
         let c = comes.can in
         by (made c.w c.least c.at)
       where
@@ -151,6 +154,10 @@ module _ {C D : Type 0} (seen : D → List ℕ) (may_leave : D → List ℕ → 
           came = came_on;
         }
 
+    -- One step more.
+    pub comes_on : {more : Bool} → more ≡ true → Made more mid between new after → Comes old before new after
+    comes_on is made = goes (subst (λ (b : Bool). Made b mid between new after) is made)
+
   -- ---- an end
 
   -- Nothing that is under way is asked any more.
@@ -171,28 +178,29 @@ module _ {C D : Type 0} (seen : D → List ℕ) (may_leave : D → List ℕ → 
       (next : Whole) × (least_next : List Row) × IsNotedAt seen may_leave new after next least_next
       × Adds before after (λ more. GoesToEnd (session_rules old.store.control.grain read) (agenda_of old.store.control.grain old.script) w more next)
 
-  pub all_made : (old mid : Noted C D) (before between : HistoryState) → Comes old before mid between → (new : Noted C D) (after : HistoryState) →
-      ((w : Whole) (least : List Row) → IsAt seen may_leave mid between w least → GoesOnTo seen may_leave false w least mid between new after) → AllMade old before new after
-  all_made old mid before between comes new after made read w least there =
-      let m = comes.came w least there in
-      let s = made m.0 m.1 m.2 in
-      let on = stayed old mid before between comes new after w m.0 m.1 m.3 s.0 in
-      let grain : GrainSize = old.store.control.grain in
-      let over : agenda_of grain new.script ≡ Session [] = subst (λ (g : GrainSize). agenda_of g new.script ≡ Session []) (s.0.grain ∙ comes.grain) s.1 in (
-        on.0,
-        on.1,
-        rests_by new.under_way new after on.0 on.1 on.2 s.1,
-        record { more = on.3.more; entries = on.3.entries; are = record { end = agenda_of grain new.script; goes = on.3.are read; over = over } },
-      )
+  module _ (old mid : Noted C D) (before between : HistoryState) (comes : Comes old before mid between) (new : Noted C D) (after : HistoryState) {more : Bool} (is : more ≡ false) (made : Made more mid between new after) where
+    ends : Made false mid between new after
+    ends = subst (λ (b : Bool). Made b mid between new after) is made
 
-  -- Which is within the limit, and another line may be asked.
-  pub all_over : (old mid : Noted C D) (before between : HistoryState) → Comes old before mid between → (new : Noted C D) (after : HistoryState) →
-      ((w : Whole) (least : List Row) → IsAt seen may_leave mid between w least → GoesOnTo seen may_leave false w least mid between new after) →
-      (new.store.control.grain ≡ old.store.control.grain) × (new.live ≡ true) × (length after.entries ≤ 262144)
-  all_over old mid before between comes new after made =
-      let can = comes.can in
-      let s = (made can.w can.least can.at).0 in
-      (s.grain ∙ comes.grain, s.live, subst (λ (h : HistoryState). length h.entries ≤ 262144) (sym s.same) can.room)
+    pub all_made : AllMade old before new after
+    all_made read w least there =
+        let m = comes.came w least there in
+        let s = ends m.0 m.1 m.2 in
+        let on = stayed old mid before between comes new after w m.0 m.1 m.3 s.0 in
+        let grain : GrainSize = old.store.control.grain in
+        let over : agenda_of grain new.script ≡ Session [] = subst (λ (g : GrainSize). agenda_of g new.script ≡ Session []) (s.0.grain ∙ comes.grain) s.1 in (
+          on.0,
+          on.1,
+          rests_by new.under_way new after on.0 on.1 on.2 s.1,
+          record { more = on.3.more; entries = on.3.entries; are = record { end = agenda_of grain new.script; goes = on.3.are read; over = over } },
+        )
+
+    -- Which is within the limit, and another line may be asked.
+    pub all_over : (new.store.control.grain ≡ old.store.control.grain) × (new.live ≡ true) × (length after.entries ≤ 262144)
+    all_over =
+        let can = comes.can in
+        let s = (ends can.w can.least can.at).0 in
+        (s.grain ∙ comes.grain, s.live, subst (λ (h : HistoryState). length h.entries ≤ 262144) (sym s.same) can.room)
 
 -- ---- a line
 

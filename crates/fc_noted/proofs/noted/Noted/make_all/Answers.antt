@@ -1,7 +1,5 @@
 -- Step by step.
-use Rattle.std.proofs.Common.{Bool, false, Err, List, refl, subst}
-use Rattle.fc_changed.specs.Row.{Row}
-use Rattle.fc_legal.specs.Whole.{Whole}
+use Rattle.std.proofs.Common.{false, Err, refl}
 use Rattle.fc_marks.specs.declared.error.NotedStop.TheVariants.{NoMemory}
 use Rattle.fc_noted.proofs.Calling.{calls_before, calls_behind, calls_of}
 use Rattle.fc_noted.proofs.Halting.{halted, halted_limit, halted_on}
@@ -9,7 +7,6 @@ use Rattle.fc_noted.proofs.KeepingLanes.{lanes_go_on, lanes_stay}
 use Rattle.fc_noted.proofs.Lines.{all_made, all_over, comes_first, comes_on}
 use Rattle.fc_noted.proofs.MeteringNoted.{no_calls}
 use Rattle.fc_noted.specs.Making.{done}
-use Rattle.fc_noted.specs.Noted.{GoesOnTo, IsAt}
 use Rattle.fc_noted.proofs.noted.Noted.make_all.Goals as goal
 
 pub steps-init : goal.steps-init
@@ -28,8 +25,7 @@ steps-preserved g c =
     record {
       comes =
           comes_on g.M.MetaDisk.seen g.M.MetaDisk.may_leave c.args.self.now c.steps.self c.args.history.now c.steps.history c.steps.invariant.comes c.make_step.new.self c.make_step.new.history
-          (subst (λ (more : Bool). (w : Whole) (least : List Row) → IsAt g.M.MetaDisk.seen g.M.MetaDisk.may_leave c.steps.self c.steps.history w least →
-          GoesOnTo g.M.MetaDisk.seen g.M.MetaDisk.may_leave more w least c.steps.self c.steps.history c.make_step.new.self c.make_step.new.history) c.in-Ok-true.field-0-test c.in-Ok-true.ensures.made.on);
+          c.in-Ok-true.field-0-test c.in-Ok-true.ensures.made.on;
       lanes = lanes_go_on c.args.self.now.store c.steps.self.store c.make_step.new.self.store c.steps.invariant.lanes c.in-Ok-true.ensures.lanes;
       counted =
           calls_behind g.M.MetaDisk.seen g.M.MetaDisk.fault_count g.M.MetaDisk.calls done c.args.self.now c.steps.self c.make_step.new.self c.steps.invariant.counted
@@ -39,28 +35,24 @@ steps-preserved g c =
 pub returns-in-Ok-false-clause-answered : goal.returns-in-Ok-false-clause-answered
 returns-in-Ok-false-clause-answered g c =
     all_made g.M.MetaDisk.seen g.M.MetaDisk.may_leave c.args.self.now c.steps.self c.args.history.now c.steps.history c.steps.invariant.comes c.make_step.new.self c.make_step.new.history
-    (subst (λ (more : Bool). (w : Whole) (least : List Row) → IsAt g.M.MetaDisk.seen g.M.MetaDisk.may_leave c.steps.self c.steps.history w least →
-    GoesOnTo g.M.MetaDisk.seen g.M.MetaDisk.may_leave more w least c.steps.self c.steps.history c.make_step.new.self c.make_step.new.history) c.in-Ok-false.field-0-test c.in-Ok-false.ensures.made.on)
+    c.in-Ok-false.field-0-test c.in-Ok-false.ensures.made.on
 
 pub returns-in-Ok-false-clause-grain : goal.returns-in-Ok-false-clause-grain
 returns-in-Ok-false-clause-grain g c =
     let all = all_over g.M.MetaDisk.seen g.M.MetaDisk.may_leave c.args.self.now c.steps.self c.args.history.now c.steps.history c.steps.invariant.comes c.make_step.new.self c.make_step.new.history
-    (subst (λ (more : Bool). (w : Whole) (least : List Row) → IsAt g.M.MetaDisk.seen g.M.MetaDisk.may_leave c.steps.self c.steps.history w least →
-    GoesOnTo g.M.MetaDisk.seen g.M.MetaDisk.may_leave more w least c.steps.self c.steps.history c.make_step.new.self c.make_step.new.history) c.in-Ok-false.field-0-test c.in-Ok-false.ensures.made.on) in
+    c.in-Ok-false.field-0-test c.in-Ok-false.ensures.made.on in
     all.0
 
 pub returns-in-Ok-false-clause-live : goal.returns-in-Ok-false-clause-live
 returns-in-Ok-false-clause-live g c =
     let all = all_over g.M.MetaDisk.seen g.M.MetaDisk.may_leave c.args.self.now c.steps.self c.args.history.now c.steps.history c.steps.invariant.comes c.make_step.new.self c.make_step.new.history
-    (subst (λ (more : Bool). (w : Whole) (least : List Row) → IsAt g.M.MetaDisk.seen g.M.MetaDisk.may_leave c.steps.self c.steps.history w least →
-    GoesOnTo g.M.MetaDisk.seen g.M.MetaDisk.may_leave more w least c.steps.self c.steps.history c.make_step.new.self c.make_step.new.history) c.in-Ok-false.field-0-test c.in-Ok-false.ensures.made.on) in
+    c.in-Ok-false.field-0-test c.in-Ok-false.ensures.made.on in
     all.1
 
 pub returns-in-Ok-false-clause-limit : goal.returns-in-Ok-false-clause-limit
 returns-in-Ok-false-clause-limit g c =
     let all = all_over g.M.MetaDisk.seen g.M.MetaDisk.may_leave c.args.self.now c.steps.self c.args.history.now c.steps.history c.steps.invariant.comes c.make_step.new.self c.make_step.new.history
-    (subst (λ (more : Bool). (w : Whole) (least : List Row) → IsAt g.M.MetaDisk.seen g.M.MetaDisk.may_leave c.steps.self c.steps.history w least →
-    GoesOnTo g.M.MetaDisk.seen g.M.MetaDisk.may_leave more w least c.steps.self c.steps.history c.make_step.new.self c.make_step.new.history) c.in-Ok-false.field-0-test c.in-Ok-false.ensures.made.on) in
+    c.in-Ok-false.field-0-test c.in-Ok-false.ensures.made.on in
     all.2
 
 pub returns-in-Err-clause-limit : goal.returns-in-Err-clause-limit
