@@ -3,7 +3,6 @@ use Rattle.std.proofs.Common.{◌≡◌, ℕ, ◌+◌, Bool, true, false, cond, 
 use Rattle.std.specs.Prelude.{IsSome}
 use Rattle.fc_base.specs.Column.{holder}
 use Rattle.fc_base.specs.Sheet.{Slot, birth_place, column, slot_at}
-use Rattle.fc_base.specs.SheetFacts.{IsSound}
 use Rattle.fc_base.specs.declared.ids.SlotId.{SlotId}
 use Rattle.fc_base.specs.declared.ids.VolId.{VolId}
 use Rattle.fc_base.specs.declared.request.Move.{Move}
@@ -16,7 +15,6 @@ use Rattle.fc_lane.specs.Lane.{LaneView}
 use Rattle.fc_lane.specs.declared.doing.Doing.{Doing}
 use Rattle.fc_legal.specs.Whole.{Whole, lane_at, part_at}
 use Rattle.fc_pictures.proofs.Fitting.{read_is}
-use Rattle.fc_rules.specs.LaneTold.{LaneTold}
 use Rattle.fc_rules.specs.Steps.{DiskStep}
 use Rattle.fc_steps.proofs.Naming.{holder_named}
 use Rattle.fc_steps.proofs.UnderWay.{MoveComes, move_comes, way_can}

@@ -1,5 +1,5 @@
 -- How the count of a noted store goes on, while an entry is under way.
-use Rattle.std.proofs.Common.{◌≡◌, ℕ, ◌+◌, ◌≤◌, Option, Some, None, List, [], ◌∷◌, ◌++◌, refl, sym, ap, subst, ◌∙◌, arith}
+use Rattle.std.proofs.Common.{◌≡◌, ℕ, ◌+◌, ◌≤◌, Option, List, [], ◌∷◌, ◌++◌, refl, sym, ap, subst, ◌∙◌, arith}
 use Rattle.std.specs.Prelude.{Err, IfErr, IsErrOf, Ok, OnErr, OnOk, Result}
 use Rattle.fc_agenda.specs.Goes.{stays}
 use Rattle.fc_base.specs.Count.{HasRisen}
