@@ -172,7 +172,7 @@ module _ {C D : Type 0} (seen : D → List ℕ) (may_leave : D → List ℕ → 
 
   -- ---- the history only grows, and each entry's actor has a name
 
-  pub some_added : (result : Result (Unit {0}) NotedStop) (n now : Noted C D) (line : List ℕ) (w : Whole) (old new : HistoryState) → LineIsAnswered seen may_leave fault_count calls result n now line w old new →
+  some_added : (result : Result (Unit {0}) NotedStop) (n now : Noted C D) (line : List ℕ) (w : Whole) (old new : HistoryState) → LineIsAnswered seen may_leave fault_count calls result n now line w old new →
       AddsSome n.store.control.grain stop_reading (Session (single line ∷ [])) w old new
   some_added (Ok done) n now line w old new r =
       record {
@@ -198,14 +198,24 @@ module _ {C D : Type 0} (seen : D → List ℕ) (may_leave : D → List ℕ → 
   some_added (Err MetaFailed) n now line w old new h = record { last = h.0; told = h.2; adds = in_part n.store.control.grain line w h.0 h.1 old new h.5 }
   some_added (Err MetaFull) n now line w old new h = record { last = h.0; told = h.2; adds = in_part n.store.control.grain line w h.0 h.1 old new h.5 }
 
-  pub line_grows : (s : StopStart) (n : Noted C D) (stop : Option NotedStop) (lines : List (List ℕ)) (line : List ℕ) (old new : HistoryState) (a : HasAnswered seen may_leave fault_count calls n stop s lines old) →
+  line_grows : (s : StopStart) (n : Noted C D) (stop : Option NotedStop) (lines : List (List ℕ)) (line : List ℕ) (old new : HistoryState) (a : HasAnswered seen may_leave fault_count calls n stop s lines old) →
       AddsSome n.store.control.grain stop_reading (Session (single line ∷ [])) a.last old new → GrowsTo old new
   line_grows s n stop lines line old new a some = history_grows n.store.control.grain stop_reading (Session (single line ∷ [])) a.last old new tt a.at.told.1 some
 
-  pub line_named : (s : StopStart) (n : Noted C D) (stop : Option NotedStop) (lines : List (List ℕ)) (line : List ℕ) (old new : HistoryState) (a : HasAnswered seen may_leave fault_count calls n stop s lines old) →
+  line_named : (s : StopStart) (n : Noted C D) (stop : Option NotedStop) (lines : List (List ℕ)) (line : List ℕ) (old new : HistoryState) (a : HasAnswered seen may_leave fault_count calls n stop s lines old) →
       AddsSome n.store.control.grain stop_reading (Session (single line ∷ [])) a.last old new → HasNames old → HasNames new
   line_named s n stop lines line old new a some =
       let w : Whole = first_told s.start.disks in
       let named : HasMore w.actors a.last.actors =
       legal_names s.start.grain w a.last old.entries (IsLegal-run s.start.grain stop_reading w a.last (map single lines) old.entries a.run) in
       names_stay n.store.control.grain stop_reading (Session (single line ∷ [])) a.last named.more old new tt a.at.told.1 (sym a.at.told.1.actors ∙ named.is) some
+
+-- Both, of a line that is answered or in part.
+pub line_adds : {C D : Type 0} {seen : D → List ℕ} {may_leave : D → List ℕ → Type 0} {fault_count calls : D → ℕ} {s : StopStart} {n : Noted C D} {stop : Option NotedStop} {lines : List (List ℕ)} {old : HistoryState} →
+    (a : HasAnswered seen may_leave fault_count calls n stop s lines old) (result : Result (Unit {0}) NotedStop) (now : Noted C D) (line : List ℕ) (new : HistoryState) →
+    LineIsAnswered seen may_leave fault_count calls result n now line a.last old new → (HasNames old → HasNames new) × GrowsTo old new
+line_adds {seen = seen} {may_leave = may_leave} {fault_count = fault_count} {calls = calls} {s = s} {n = n} {stop = stop} {lines = lines} {old = old} a result now line new answered =
+    let some = some_added seen may_leave fault_count calls result n now line a.last old new answered in (
+      line_named seen may_leave fault_count calls s n stop lines line old new a some,
+      line_grows seen may_leave fault_count calls s n stop lines line old new a some,
+    )

@@ -1,10 +1,12 @@
 -- What is found after a stop: it may be read, and its text is that of what may be recovered.
-use Rattle.std.proofs.Common.{◌≡◌, ◌⊎◌, ℕ, ◌%◌, ◌==◌, Bool, true, false, List, [], inl, inr, length, refl, sym, ap, subst, ◌∙◌, None, if◌then◌else◌}
+use Rattle.std.proofs.Common.{◌≡◌, ◌⊎◌, ℕ, ◌%◌, ◌==◌, Bool, true, false, List, [], inl, inr, length, refl, sym, ap, subst, ◌∙◌, Option, None, if◌then◌else◌}
 use Rattle.std.proofs.lemmas.List.{append-nil}
 use Rattle.fc_base.specs.declared.limits.TheConstants.{LANES}
+use Rattle.fc_base.specs.declared.request.Request.{Request}
 use Rattle.fc_base.specs.declared.size.GrainSize.TheVariants.{K64}
 use Rattle.fc_base.specs.declared.volume.Volume.{Volume}
 use Rattle.fc_call.specs.Call.{Call}
+use Rattle.fc_changed.specs.Row.{Row}
 use Rattle.fc_format.specs.Halves.{Found, Image, NoImage, recovered}
 use Rattle.fc_held.specs.Held.{HoldAllOf}
 use Rattle.fc_image.specs.declared.image.MetaImage.{MetaImage}
@@ -21,7 +23,7 @@ use Rattle.fc_marks.specs.declared.error.NotedStop.TheVariants.{LogFull}
 use Rattle.fc_mdisk.specs.Disk.{DiskState}
 use Rattle.fc_metadisk.specs.Stop.{StopLeaves, StopState, found_after}
 use Rattle.fc_noted.proofs.Safe.{as_it_was}
-use Rattle.fc_noted.specs.Stopping.{Leaves, LeavesFirst, MoreFailed}
+use Rattle.fc_noted.specs.Stopping.{IsAskedSoon, Leaves, LeavesFirst, MoreFailed}
 use Rattle.fc_noted.specs.declared.noted.Noted.{Noted}
 use Rattle.fc_owner.specs.FirstTold.{first_told}
 use Rattle.fc_recovered.specs.Readying.{readied}
@@ -71,29 +73,28 @@ module _ {C : Type 0} (n : Noted C StopState) (last : Whole) (left : Agenda) (ol
       subst (λ (i : MetaImage). CanRecover K64 i back) (same_image (recovered (found_after n.meta.disk)) l.0 image l.1 is)
       (can_recover (over_disks old) n.named n.store.lanes l.0 back last r.0 r.1 r.3.one has hold l.2 r.3.recoverable)
 
-  -- With the disks that came back it is safe.
-  found_safe : (back : List (List NamedDisk)) (hold : HoldAllOf n.named n.store.lanes back) →
-      let r = (leaves.found (found_after n.meta.disk) (found_leaves n.meta.disk)).3 back hold in
-      IsSafe K64 back (kept_in (leaves.found (found_after n.meta.disk) (found_leaves n.meta.disk)).0) last r.0 r.1 (DisksFailedMore last (all_disks back))
+  -- It is an image, safe with the disks that came back.
+  found_safe : (back : List (List NamedDisk)) → HoldAllOf n.named n.store.lanes back →
+      (image : MetaImage) × (least : List Row) × (asked : Option Request) × (recovered (found_after n.meta.disk) ≡ Image image) × IsAskedSoon K64 last left asked
+      × IsSafe K64 back (kept_in image) last least asked (DisksFailedMore last (all_disks back))
   found_safe back hold =
       let l = leaves.found (found_after n.meta.disk) (found_leaves n.meta.disk) in
       let r = l.3 back hold in
-      safe_by K64 back (kept_in l.0) last r.0 r.1 (MoreFailed last n.store.lanes) (DisksFailedMore last (all_disks back)) (disks_failed_more n.named n.store.lanes back last hold leaves.counted) r.3
+      let more = disks_failed_more n.named n.store.lanes back last hold leaves.counted in
+      (l.0, r.0, r.1, l.1, r.2, safe_by K64 back (kept_in l.0) last r.0 r.1 (MoreFailed last n.store.lanes) (DisksFailedMore last (all_disks back)) more r.3)
 
   pub found_state : (call : Call) (back behind : List (List NamedDisk)) (text : List ℕ) → HoldAllOf n.named n.store.lanes back →
       IsStateText K64 (recovered (found_after n.meta.disk)) back text behind → call.disks' ≡ all_disks behind → IsState call last left text
   found_state call back behind text hold is came =
-      let l = leaves.found (found_after n.meta.disk) (found_leaves n.meta.disk) in
-      let r = l.3 back hold in
-      IsState.first l.0 back text behind r.0 r.1 r.2 (found_safe back hold) (subst (λ (f : Found). IsStateText K64 f back text behind) l.1 is) came
+      let s = found_safe back hold in
+      IsState.first s.0 back text behind s.1 s.2 s.4 s.5 (subst (λ (f : Found). IsStateText K64 f back text behind) s.3 is) came
 
   -- and what was put of it, where the sink failed or memory was wanted
   pub found_front : (call : Call) (back behind : List (List NamedDisk)) (text : List ℕ) → HoldAllOf n.named n.store.lanes back →
       IsStateFront K64 (recovered (found_after n.meta.disk)) back text behind → call.disks' ≡ all_disks behind → IsLeftFront call last left text
   found_front call back behind text hold is came =
-      let l = leaves.found (found_after n.meta.disk) (found_leaves n.meta.disk) in
-      let r = l.3 back hold in
-      IsLeftFront.first l.0 back text behind r.0 r.1 r.2 (found_safe back hold) (subst (λ (f : Found). IsStateFront K64 f back text behind) l.1 is) came
+      let s = found_safe back hold in
+      IsLeftFront.first s.0 back text behind s.1 s.2 s.4 s.5 (subst (λ (f : Found). IsStateFront K64 f back text behind) s.3 is) came
 
 -- ---- before the first image stands
 
