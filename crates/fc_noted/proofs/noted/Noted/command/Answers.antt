@@ -33,6 +33,9 @@ returns-clause-made g c =
     c.in_ok-entry.ensures.asked c.requires.next c.in_ok-entry.ensures.grain c.command_entry.ensures.script (c.command_entry.ensures.live ∙ c.requires.live) c.len.result c.len.ensures c.log_entry.new.self
     c.log_entry.ensures.others c.log_entry.result c.log_entry.new.history c.log_entry.ensures.logged c.log_entry.ensures.goes c.log_entry.ensures.unlogged c.log_entry.ensures.stop
 
+pub returns-in_err-entry-clause-lanes : goal.returns-in_err-entry-clause-lanes
+returns-in_err-entry-clause-lanes g c = keep_lanes c.args.self.now.store c.command_entry.new.self.store c.command_entry.ensures.lanes
+
 pub returns-clause-lanes : goal.returns-clause-lanes
 returns-clause-lanes g c =
     subst (λ n. KeepLanes c.args.self.now.store n.store) (sym c.log_entry.ensures.others) (keep_lanes c.args.self.now.store c.command_entry.new.self.store c.command_entry.ensures.lanes)
