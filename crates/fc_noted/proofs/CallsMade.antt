@@ -1,5 +1,5 @@
 -- What the count of calls says of a noted store whose metadata stays, or is made anew.
-use Rattle.std.proofs.Common.{◌≡◌, ℕ, ◌/◌, ◌≤◌, List, length, Result, Ok, Err, OnOk, refl, sym, ap, subst, ◌∙◌, arith}
+use Rattle.std.proofs.Common.{◌≡◌, ℕ, ◌/◌, List, length, Result, Ok, Err, OnOk, refl, sym, ap, subst, ◌∙◌, arith}
 use Rattle.std.specs.Prelude.{IsErrOf}
 use Rattle.fc_base.specs.Count.{HasRisen}
 use Rattle.fc_desk.specs.Control.{ControlState}

@@ -13,7 +13,7 @@ use Rattle.fc_books.specs.Deciding.{settle}
 use Rattle.fc_changed.specs.Row.{Row}
 use Rattle.fc_entry.specs.HistoryState.{HistoryState}
 use Rattle.fc_follow.specs.Following.{restarts}
-use Rattle.fc_kept.specs.Actions.{Action, Action.Fold, actions_of_command, has_effect}
+use Rattle.fc_kept.specs.Actions.{Action.Fold, actions_of_command, has_effect}
 use Rattle.fc_legal.specs.Agenda.{Asks}
 use Rattle.fc_legal.specs.Steps.{after_settling, decided_on}
 use Rattle.fc_legal.specs.Whole.{Whole}

@@ -1,5 +1,5 @@
 -- The decision is made ready and done, and metadata is made anew.
-use Rattle.std.proofs.Common.{◌≡◌, Bool, Some, is_some, inl, inr, refl, sym, ap, subst, ◌∙◌, Err, Ok}
+use Rattle.std.proofs.Common.{◌≡◌, Bool, Some, is_some, inl, inr, refl, sym, ap, subst, ◌∙◌, Err}
 use Rattle.fc_meta.specs.States.{disk_of, found}
 use Rattle.law_noted.specs.Records.{removed_by}
 use Rattle.fc_noted.proofs.Acting.{about_image, acted_image, acted_on, always_true, by_image, first_true, none_gone, on_error, stayed, still_there}

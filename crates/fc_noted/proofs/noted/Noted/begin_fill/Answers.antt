@@ -1,5 +1,5 @@
 -- A copy or a cleaning begins in the lane of its grain.
-use Rattle.std.proofs.Common.{Err, Ok, List, true, subst, sym, ap, ◌∙◌, refl}
+use Rattle.std.proofs.Common.{Err, Ok, true, subst, sym, ap, refl}
 use Rattle.std.proofs.lemmas.Result.{err_from_is_err_and}
 use Rattle.fc_base.specs.declared.request.Request.{Request}
 use Rattle.fc_base.specs.declared.size.GrainSize.{GrainSize}
