@@ -1,6 +1,5 @@
 -- An entry begins in its lane, and is under way.
-use Rattle.std.proofs.Common.{◌≡◌, ℕ, ◌<◌, ◌≤◌, Bool, true, Option, Some, None, List, [], length, Ok, Err, refl, sym, ap, subst, ◌∙◌, inl, arith}
-use Rattle.std.specs.Prelude.{IsErrOf}
+use Rattle.std.proofs.Common.{◌≡◌, ℕ, ◌<◌, ◌≤◌, true, Option, Some, None, List, [], length, Ok, Err, refl, sym, ap, subst, ◌∙◌, inl, arith}
 use Rattle.fc_agenda.specs.Goes.{stays}
 use Rattle.fc_base.specs.declared.size.GrainSize.{GrainSize}
 use Rattle.fc_changed.specs.Row.{Row}
@@ -26,6 +25,7 @@ use Rattle.fc_noted.proofs.Counting.{has_counted}
 use Rattle.fc_noted.proofs.Holding.{HoldSame, have_same, match_same, one_same}
 use Rattle.fc_noted.proofs.Metering.{begun_so}
 use Rattle.fc_noted.proofs.Moments.{doing_found, hold_either, resting_found, still_leaves}
+use Rattle.fc_noted.proofs.Stepping.{same_stop}
 use Rattle.fc_noted.specs.Making.{StepMade}
 use Rattle.fc_noted.specs.Noted.{IsAt, IsAtBy, IsDoing, IsNotedAt}
 use Rattle.fc_noted.specs.Stopping.{MayBeRecovered}
@@ -230,12 +230,9 @@ module _ {C D : Type 0} (seen : D → List ℕ) (may_leave : D → List ℕ → 
                 leaves = λ c may. (k.image, ap recovered (k.rests.durable c may) ∙ k.says, found_roomy w least at);
               },
             );
-        full = λ e. full (err_is stop LogFull e);
-        into = λ e. absurd (never (err_is stop MetaFailed e));
+        full = λ e. full (same_stop stop e);
+        into = λ e. absurd (never (same_stop stop e));
       }
-    where
-      err_is : (s other : NotedStop) → IsErrOf {T = Bool} (Err s) other → s ≡ other
-      err_is s other e = cc
 
   -- ---- an entry is under way
 
