@@ -37,7 +37,6 @@ use Rattle.fc_noted.proofs.InHand.{alone_recovered, now_inside, recovered_of}
 use Rattle.fc_noted.proofs.MeteringHand.{moved_so, uncopied_so}
 use Rattle.fc_noted.proofs.MeteringNoted.{goes_into_record, so_far_put}
 use Rattle.fc_noted.proofs.Putting.{by_grain, put_keeps, put_leaves, put_says, recovers_with, recovers_without, way_leaves, way_stopped}
-use Rattle.fc_noted.proofs.Safe.{safe_by}
 use Rattle.fc_noted.proofs.Stepping.{way_goes, way_stops}
 use Rattle.fc_noted.specs.Making.{CountsInto, WayMade, done}
 use Rattle.fc_noted.specs.Noted.{IsDoing}
@@ -61,6 +60,7 @@ use Rattle.law_noted.proofs.Finding.{stop_law_holds}
 use Rattle.law_noted.proofs.HandNext.{alone}
 use Rattle.law_noted.proofs.HandOn.{put_alone}
 use Rattle.law_noted.proofs.Losing.{uncopied_agree}
+use Rattle.law_noted.proofs.OldOrNew.{safe_by}
 use Rattle.law_noted.specs.Advancing.{HasTorn, uncopied}
 use Rattle.law_noted.specs.Came.{steps_done}
 use Rattle.law_noted.specs.DataSteps.{GoAlong, IsInHand, IsNextStep, copies_nothing}

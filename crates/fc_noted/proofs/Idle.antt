@@ -10,9 +10,8 @@ use Rattle.fc_legal.specs.Steps.{after_access}
 use Rattle.fc_legal.specs.Whole.{Whole}
 use Rattle.fc_marks.specs.declared.error.NotedStop.TheVariants.{NoMemory as WantsMemory}
 use Rattle.fc_marks.specs.declared.error.NotedStop.{NotedStop}
-use Rattle.fc_noted.proofs.Counting.{has_counted}
+use Rattle.fc_noted.proofs.Counting.{counted_same, has_counted}
 use Rattle.fc_noted.proofs.Holding.{HoldSame, have_same, match_same}
-use Rattle.fc_noted.proofs.Rising.{counted_same}
 use Rattle.fc_noted.proofs.Still.{HoldStill, access_leads, still_made}
 use Rattle.fc_noted.specs.Making.{GoesBehind, StepMade, always}
 use Rattle.fc_noted.specs.Noted.{IsNotedAt}
