@@ -286,11 +286,11 @@ module _ {C D : Type 0} (seen : D → List ℕ) (may_leave : D → List ℕ → 
 
     -- whichever it was
     pub line_answered : (result : Result (Unit {0}) NotedStop) → OnOk result (ScriptEnds seen may_leave begun new before after) → OnOk result (LineEnds seen may_leave line first new before after)
-    line_answered (Ok done) made = line_ends made
+    line_answered (Ok none) made = line_ends made
     line_answered (Err stop) made = tt
 
     pub line_halted : (result : Result (Unit {0}) NotedStop) → IfErr result (λ stop. ScriptStops seen may_leave fault_count calls stop begun new before after) → IfErr result (λ stop. LineStops seen may_leave fault_count calls line stop first new before after)
-    line_halted (Ok done) halts = tt
+    line_halted (Ok none) halts = tt
     line_halted (Err stop) halts = line_stops stop halts
 
 -- ---- whether or not it is answered

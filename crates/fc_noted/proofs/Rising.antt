@@ -1,5 +1,5 @@
 -- While an entry is under way in a lane, no count of its calls and faults falls.
-use Rattle.std.proofs.Common.{◌≡◌, ℕ, ◌+◌, ◌<◌, ◌≤◌, Bool, true, false, Option, Some, None, List, drop, take, ap, ◌∙◌, arith}
+use Rattle.std.proofs.Common.{◌≡◌, ℕ, ◌+◌, ◌≤◌, Bool, true, false, Option, Some, None, List, drop, take, ap, ◌∙◌, arith}
 use Rattle.fc_base.specs.declared.request.Move.{Move}
 use Rattle.fc_chain.specs.Chains.{Chains}
 use Rattle.fc_grains.specs.Grains.{GrainsState, stopped}

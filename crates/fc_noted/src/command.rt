@@ -1,6 +1,6 @@
 //! Commands.
 
-ghost use Rattle.std.specs.Prelude.{◌≡◌, ◌+◌, ◌<◌, ◌≤◌, ◌||◌, [], ℕ, List, Some, length, true, is_some, IfOk, IsErrOf, OnErr, OnOk};
+ghost use Rattle.std.specs.Prelude.{◌≡◌, ◌+◌, ◌<◌, ◌||◌, [], ℕ, List, Some, length, true, is_some, IfOk, IsErrOf, OnErr, OnOk};
 ghost use Rattle.fc_books.specs.Deciding.{settle};
 ghost use Rattle.fc_changed.specs.Row.{Row};
 ghost use Rattle.fc_entry.specs.HistoryState.{HistoryState};
@@ -18,7 +18,7 @@ ghost use Rattle.fc_meta.specs.Answers.{LeavesEither, more_calls};
 ghost use Rattle.fc_meta.specs.States.{IsResting, disk_of, found, used_of};
 ghost use Rattle.fc_metadisk.specs.Disk.{LeavesOnly};
 ghost use Rattle.fc_noted.specs.Making.{AnewOr, CountsInto, HasActed, IsEntryOf, IsImageAfter, KeepLanes, KeepsCount, LeadsOn, LeavesAnew, MayHaveActed, StepMade, always};
-ghost use Rattle.fc_noted.specs.Noted.{IsNotedAt};
+ghost use Rattle.fc_noted.specs.Noted.{CanBegin, IsNotedAt};
 ghost use Rattle.law_noted.specs.Records.{removed_by};
 ghost use Rattle.fc_noted.specs.Stopping.{HasStopped, LeavesRecoverable};
 ghost use Rattle.fc_script.specs.Asking.{CanBeAsked, IsNext};
@@ -81,9 +81,7 @@ impl<D: Mdisk, M: MetaDisk> Noted<D, M> {
         command: Command,
         history: &mut History,
     ) -> Result<(), NotedStop>
-        requires at { (w : Whole) × (least : List Row) × IsNotedAt M.seen M.may_leave self.old history.old w least }
-        requires live { self.old.live ≡ true }
-        requires room { length history.old.entries ≤ 262144 }
+        requires begins { CanBegin M.seen M.may_leave self.old history.old }
         requires next { (w : Whole) → StandsFor self.old.store w → IsNext self.old.store.control.grain w (Some (Asked.Command command)) (agenda_of self.old.store.control.grain self.old.script) }
         requires can { CanBeAsked self.old.store (Asked.Command command) }
         ensures made { StepMade M.seen M.may_leave M.moment M.left_since (always result) self.old self.new history.old history.new }

@@ -25,14 +25,14 @@ use Rattle.fc_noted.proofs.MeteringNoted.{no_calls}
 use Rattle.fc_noted.proofs.noted.Noted.begin_fill.Goals as goal
 
 pub ready_lane-requires : goal.ready_lane-requires
-ready_lane-requires g c = record { stands = (c.requires.at.0, c.requires.at.2.told) }
+ready_lane-requires g c = record { stands = (c.requires.begins.w, c.requires.begins.at.told) }
 
 pub returns-in_err-place-clause-made : goal.returns-in_err-place-clause-made
 returns-in_err-place-clause-made g c =
     let p = err_from_is_err_and c.from_residual.result c.from_residual.ensures.1 in
     rw (p.1, p.2) (
     stopped_made g.M.MetaDisk.seen g.M.MetaDisk.may_leave g.M.MetaDisk.moment g.M.MetaDisk.left_since g.met.M.MetaDisk.only_now c.args.self.now c.args.history.now c.ready_lane.new.self
-    c.ready_lane.ensures.kept.control c.ready_lane.ensures.kept.grains c.ready_lane.ensures.kept.stands c.requires.at.2.idle c.requires.live c.requires.room
+    c.ready_lane.ensures.kept.control c.ready_lane.ensures.kept.grains c.ready_lane.ensures.kept.stands c.requires.begins.at.idle c.requires.begins.live c.requires.begins.room
     (stop_of_log c.in_err-place.field-0.0) (full_only c.in_err-place.field-0.0 c.args.history.now c.in_err-place.ensures.stopped) (not_failed c.in_err-place.field-0.0)
     )
 
@@ -41,8 +41,8 @@ begin_fill-doing-requires-clause-there g c = c.in_ok-place.ensures.ready.inside
 
 pub begin_fill-doing-requires-clause-can : goal.begin_fill-doing-requires-clause-can
 begin_fill-doing-requires-clause-can g c =
-    let w : Whole = c.requires.at.0 in
-    let told = c.requires.at.2.told.0 in
+    let w : Whole = c.requires.begins.w in
+    let told = c.requires.begins.at.told.0 in
     let kept = c.ready_lane.ensures.kept in
     let lane : LaneView = lane_in c.ready_lane.new.self c.in_ok-place.place in
     let Can : Worker → Type 0 = λ worker. (f : Followed) × IsFollowing lane f × FitsAsk (of lane) (ask_of worker c.args.map c.args.grain) f.told in
@@ -52,7 +52,7 @@ begin_fill-doing-requires-clause-can g c =
 
 pub begin_fill-doing-requires-clause-of_lane : goal.begin_fill-doing-requires-clause-of_lane
 begin_fill-doing-requires-clause-of_lane g c =
-    fill_of_lane c.ready_lane.new.self c.requires.at.0 (c.ready_lane.ensures.kept.stands c.requires.at.0 c.requires.at.2.told.0) c.args.grain c.in_ok-place.place c.in_ok-place.ensures.ready
+    fill_of_lane c.ready_lane.new.self c.requires.begins.w (c.ready_lane.ensures.kept.stands c.requires.begins.w c.requires.begins.at.told.0) c.args.grain c.in_ok-place.place c.in_ok-place.ensures.ready
 
 pub begin_fill-doing-requires-clause-ready : goal.begin_fill-doing-requires-clause-ready
 begin_fill-doing-requires-clause-ready g c = c.in_ok-place.ensures.ready.ready no_lane
@@ -69,7 +69,7 @@ returns-clause-made g c =
     let Begins : Worker → Type 0 = λ worker. HasBegun (lane_in c.ready_lane.new.self place) c.len.result 0 (ask_of worker c.args.map c.args.grain) doing (lane_in store place) in
     subst (λ n. StepMade g.M.MetaDisk.seen g.M.MetaDisk.may_leave g.M.MetaDisk.moment g.M.MetaDisk.left_since (Ok true) old n history history) (sym c.take_up.ensures)
     (begun_made g.M.MetaDisk.seen g.M.MetaDisk.may_leave g.M.MetaDisk.moment g.M.MetaDisk.left_since g.met.M.MetaDisk.only_now old history c.ready_lane.new.self
-    kept.control kept.grains kept.stands c.requires.at.2.idle c.requires.live c.requires.room
+    kept.control kept.grains kept.stands c.requires.begins.at.idle c.requires.begins.live c.requires.begins.room
     place c.len.result c.in_ok-place.ensures.ready.inside (ask_of (worker_of c.args.cleans) c.args.map c.args.grain) doing store (subst Begins c.worker_of-worker.ensures c.begin_fill-doing.ensures.begun) c.len.ensures
     c.begin_fill-doing.ensures.others
     (λ w up. subst (λ (r : Request). Asks grain (agenda_of grain old.script) w (0, r)) (fill_request c.args.cleans c.args.map c.args.grain) (c.requires.next w up))

@@ -32,14 +32,14 @@ use Rattle.fc_noted.proofs.MeteringNoted.{no_calls, memory_alone}
 use Rattle.fc_noted.proofs.noted.Noted.begin_write.Goals as goal
 
 pub ready_lane-requires : goal.ready_lane-requires
-ready_lane-requires g c = record { stands = (c.requires.at.0, c.requires.at.2.told) }
+ready_lane-requires g c = record { stands = (c.requires.begins.w, c.requires.begins.at.told) }
 
 pub returns-in_err-place-clause-made : goal.returns-in_err-place-clause-made
 returns-in_err-place-clause-made g c =
     let p = err_from_is_err_and c.from_residual.result c.from_residual.ensures.1 in
     rw (p.1, p.2) (
     stopped_made g.M.MetaDisk.seen g.M.MetaDisk.may_leave g.M.MetaDisk.moment g.M.MetaDisk.left_since g.met.M.MetaDisk.only_now c.args.self.now c.args.history.now c.ready_lane.new.self
-    c.ready_lane.ensures.kept.control c.ready_lane.ensures.kept.grains c.ready_lane.ensures.kept.stands c.requires.at.2.idle c.requires.live c.requires.room
+    c.ready_lane.ensures.kept.control c.ready_lane.ensures.kept.grains c.ready_lane.ensures.kept.stands c.requires.begins.at.idle c.requires.begins.live c.requires.begins.room
     (stop_of_log c.in_err-place.field-0.0) (full_only c.in_err-place.field-0.0 c.args.history.now c.in_err-place.ensures.stopped) (not_failed c.in_err-place.field-0.0)
     )
 
@@ -56,7 +56,7 @@ begin_write-requires-clause-there g c = c.in_ok-place.ensures.ready.inside
 
 pub begin_write-requires-clause-can : goal.begin_write-requires-clause-can
 begin_write-requires-clause-can g c =
-    access_can c.ready_lane.new.self c.requires.at.0 (c.ready_lane.ensures.kept.stands c.requires.at.0 c.requires.at.2.told.0) c.args.grain c.in_ok-place.place c.in_ok-place.ensures.ready
+    access_can c.ready_lane.new.self c.requires.begins.w (c.ready_lane.ensures.kept.stands c.requires.begins.w c.requires.begins.at.told.0) c.args.grain c.in_ok-place.place c.in_ok-place.ensures.ready
     c.args.volume c.args.block c.args.count c.blocks_in-first.result.0 c.blocks_in-first.result.1 (touches_there c.args.self.now.store.control c.ready_lane.new.self.control c.args.volume c.args.block c.args.count c.args.grain c.ready_lane.ensures.kept.control c.requires.can)
     (in_grain c.ready_lane.new.self.control.grain c.ready_lane.new.self.control.tables c.args.volume c.args.block c.args.count c.args.grain (touches_there c.args.self.now.store.control c.ready_lane.new.self.control c.args.volume c.args.block c.args.count c.args.grain c.ready_lane.ensures.kept.control c.requires.can) c.grain.result c.grain.ensures c.blocks_in-first.result.0 c.blocks_in-first.result.1 c.blocks_in-first.ensures.first c.blocks_in-first.ensures.count)
 
@@ -66,7 +66,7 @@ begin_write-requires-clause-number g c =
 
 pub begin_write-requires-clause-grain : goal.begin_write-requires-clause-grain
 begin_write-requires-clause-grain g c =
-    let stands = c.ready_lane.ensures.kept.stands c.requires.at.0 c.requires.at.2.told.0 in
+    let stands = c.ready_lane.ensures.kept.stands c.requires.begins.w c.requires.begins.at.told.0 in
     let at = stands.each c.in_ok-place.place no_lane c.in_ok-place.ensures.ready.inside in
     at.grain_is
 
@@ -87,7 +87,7 @@ returns-in-UnderWay-clause-made g c =
     let AsksIt : GrainSize → Request → Whole → Type 0 = λ z r w. Asks z (agenda_of z old.script) w (0, r) in
     subst (λ n. StepMade g.M.MetaDisk.seen g.M.MetaDisk.may_leave g.M.MetaDisk.moment g.M.MetaDisk.left_since (Ok true) old n history history) (sym c.take_up.ensures)
     (begun_made g.M.MetaDisk.seen g.M.MetaDisk.may_leave g.M.MetaDisk.moment g.M.MetaDisk.left_since g.met.M.MetaDisk.only_now old history c.ready_lane.new.self
-    kept.control kept.grains kept.stands c.requires.at.2.idle c.requires.live c.requires.room
+    kept.control kept.grains kept.stands c.requires.begins.at.idle c.requires.begins.live c.requires.begins.room
     place c.len.result c.in_ok-place.ensures.ready.inside (WriteAsk part) doing store c.in-UnderWay.ensures.begun c.len.ensures c.in-UnderWay.ensures.others
     (λ w up. subst (λ (r : Request). AsksIt old.store.control.grain r w) (access_by c.ready_lane.new.self.control.grain c.ready_lane.new.self.control.tables c.args.volume c.args.block c.args.count c.args.grain (touches_there c.args.self.now.store.control c.ready_lane.new.self.control c.args.volume c.args.block c.args.count c.args.grain c.ready_lane.ensures.kept.control c.requires.can) c.grain.result c.grain.ensures c.blocks_in-first.result.0 c.blocks_in-first.result.1 c.blocks_in-first.ensures.first c.blocks_in-first.ensures.count (Write c.args.byte) old.store.control.grain same) (c.requires.next w up))
     (λ w up.
@@ -108,8 +108,8 @@ log_entry-requires-clause-stands g c =
     let is = c.in-Answered.ensures.others in
     let touches = touches_there c.args.self.now.store.control c.ready_lane.new.self.control c.args.volume c.args.block c.args.count c.args.grain c.ready_lane.ensures.kept.control c.requires.can in
     let within = in_grain c.ready_lane.new.self.control.grain c.ready_lane.new.self.control.tables c.args.volume c.args.block c.args.count c.args.grain touches c.grain.result c.grain.ensures c.blocks_in-first.result.0 c.blocks_in-first.result.1 c.blocks_in-first.ensures.first c.blocks_in-first.ensures.count in
-    let w : Whole = c.requires.at.0 in
-    let told = c.requires.at.2.told in
+    let w : Whole = c.requires.begins.w in
+    let told = c.requires.begins.at.told in
     let turn = answered_turn c.ready_lane.new.self w (kept.stands w told.0) c.args.grain place c.in_ok-place.ensures.ready c.args.volume c.args.block c.args.count c.blocks_in-first.result.0 c.blocks_in-first.result.1 touches within (Write c.args.byte) c.len.result entry store begun.0 is (omega (arith, nothing.calls)) (told.1.entries ∙ sym c.len.ensures) in
     (after_access c.ready_lane.new.self.control.grain w (lane_of_grain w c.args.grain) entry, turn.stands)
 
@@ -131,18 +131,18 @@ returns-in-Answered-clause-made g c =
     let part : WritePart = record { volume = c.args.volume; block = c.blocks_in-first.result.0; count = c.blocks_in-first.result.1; byte = c.args.byte } in
     let IsTurnBy : ControlState → Whole → Type 0 = λ z w. IsTurn (StandsFor store) z.grain w (WriteBlocks part) entry (after_access z.grain w (lane_of_grain w c.args.grain) entry) in
     let AsksIt : GrainSize → Request → Whole → Type 0 = λ z r w. Asks z (agenda_of z old.script) w (0, r) in
-    let at = c.requires.at in
+    let begins = c.requires.begins in
     subst (λ n. StepMade g.M.MetaDisk.seen g.M.MetaDisk.may_leave g.M.MetaDisk.moment g.M.MetaDisk.left_since (always c.log_entry.result) old n history c.log_entry.new.history) (sym c.log_entry.ensures.others)
-    (idle_made g.M.MetaDisk.seen g.M.MetaDisk.may_leave g.M.MetaDisk.moment g.M.MetaDisk.left_since g.met.M.MetaDisk.only_now old history at.2.idle c.requires.live c.in_ok-place.ensures.room store
+    (idle_made g.M.MetaDisk.seen g.M.MetaDisk.may_leave g.M.MetaDisk.moment g.M.MetaDisk.left_since g.met.M.MetaDisk.only_now old history begins.at.idle c.requires.begins.live c.in_ok-place.ensures.room store
     (ap (λ (z : StoreView). z.control) is ∙ kept.control)
     (one_same c.ready_lane.new.self store place is (ap (λ (z : LaneView). z.grains) begun.1) c.in_ok-place.ensures.ready.inside ∙ kept.grains) entry (WriteBlocks part) c.log_entry.new.self.script c.log_entry.result c.log_entry.new.history
     (record {
       nothing = nothing;
       unwritten = unwritten;
-      no_effects = no_effects c.ready_lane.new.self at.0 (kept.stands at.0 at.2.told.0) c.args.grain place c.in_ok-place.ensures.ready c.args.volume c.args.block c.args.count c.blocks_in-first.result.0 c.blocks_in-first.result.1
-          touches within (Write c.args.byte) c.len.result entry store begun.0 is (omega (arith, nothing.calls)) (at.2.told.1.entries ∙ sym c.len.ensures);
-      not_every = not_every c.ready_lane.new.self at.0 (kept.stands at.0 at.2.told.0) c.args.grain place c.in_ok-place.ensures.ready c.args.volume c.args.block c.args.count c.blocks_in-first.result.0 c.blocks_in-first.result.1
-          touches within (Write c.args.byte) c.len.result entry store begun.0 is (omega (arith, nothing.calls)) (at.2.told.1.entries ∙ sym c.len.ensures);
+      no_effects = no_effects c.ready_lane.new.self begins.w (kept.stands begins.w begins.at.told.0) c.args.grain place c.in_ok-place.ensures.ready c.args.volume c.args.block c.args.count c.blocks_in-first.result.0 c.blocks_in-first.result.1
+          touches within (Write c.args.byte) c.len.result entry store begun.0 is (omega (arith, nothing.calls)) (begins.at.told.1.entries ∙ sym c.len.ensures);
+      not_every = not_every c.ready_lane.new.self begins.w (kept.stands begins.w begins.at.told.0) c.args.grain place c.in_ok-place.ensures.ready c.args.volume c.args.block c.args.count c.blocks_in-first.result.0 c.blocks_in-first.result.1
+          touches within (Write c.args.byte) c.len.result entry store begun.0 is (omega (arith, nothing.calls)) (begins.at.told.1.entries ∙ sym c.len.ensures);
       turns = λ w least h.
           (lane_of_grain w c.args.grain, subst (λ (z : ControlState). IsTurnBy z w) kept.control (answered_turn c.ready_lane.new.self w (kept.stands w h.told.0) c.args.grain place c.in_ok-place.ensures.ready c.args.volume c.args.block c.args.count c.blocks_in-first.result.0 c.blocks_in-first.result.1 touches within (Write c.args.byte) c.len.result entry store begun.0 is (omega (arith, nothing.calls)) (h.told.1.entries ∙ sym c.len.ensures)));
       asks = λ w up. subst (λ (r : Request). AsksIt old.store.control.grain r w) (access_by c.ready_lane.new.self.control.grain c.ready_lane.new.self.control.tables c.args.volume c.args.block c.args.count c.args.grain (touches_there c.args.self.now.store.control c.ready_lane.new.self.control c.args.volume c.args.block c.args.count c.args.grain c.ready_lane.ensures.kept.control c.requires.can) c.grain.result c.grain.ensures c.blocks_in-first.result.0 c.blocks_in-first.result.1 c.blocks_in-first.ensures.first c.blocks_in-first.ensures.count (Write c.args.byte) old.store.control.grain same) (c.requires.next w up);

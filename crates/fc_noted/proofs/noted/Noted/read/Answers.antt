@@ -22,14 +22,14 @@ use Rattle.fc_noted.proofs.MeteringNoted.{memory_alone, no_calls}
 use Rattle.fc_noted.proofs.noted.Noted.read.Goals as goal
 
 pub ready_lane-requires : goal.ready_lane-requires
-ready_lane-requires g c = record { stands = (c.requires.at.0, c.requires.at.2.told) }
+ready_lane-requires g c = record { stands = (c.requires.begins.w, c.requires.begins.at.told) }
 
 pub returns-in_err-place-clause-made : goal.returns-in_err-place-clause-made
 returns-in_err-place-clause-made g c =
     let p = err_from_is_err_and c.from_residual.result c.from_residual.ensures.1 in
     rw (p.1, p.2) (
     stopped_made g.M.MetaDisk.seen g.M.MetaDisk.may_leave g.M.MetaDisk.moment g.M.MetaDisk.left_since g.met.M.MetaDisk.only_now c.args.self.now c.args.history.now c.ready_lane.new.self
-    c.ready_lane.ensures.kept.control c.ready_lane.ensures.kept.grains c.ready_lane.ensures.kept.stands c.requires.at.2.idle c.requires.live c.requires.room
+    c.ready_lane.ensures.kept.control c.ready_lane.ensures.kept.grains c.ready_lane.ensures.kept.stands c.requires.begins.at.idle c.requires.begins.live c.requires.begins.room
     (stop_of_log c.in_err-place.field-0.0) (full_only c.in_err-place.field-0.0 c.args.history.now c.in_err-place.ensures.stopped) (not_failed c.in_err-place.field-0.0)
     )
 
@@ -52,7 +52,7 @@ read_at-entry-requires-clause-can g c =
     let kept = c.ready_lane.ensures.kept in
     let blocks = c.blocks_in-first in
     let touches = touches_there c.args.self.now.store.control now c.args.volume c.args.block c.args.count c.args.grain kept.control c.requires.can in
-    access_can c.ready_lane.new.self c.requires.at.0 (kept.stands c.requires.at.0 c.requires.at.2.told.0) c.args.grain c.in_ok-place.place c.in_ok-place.ensures.ready
+    access_can c.ready_lane.new.self c.requires.begins.w (kept.stands c.requires.begins.w c.requires.begins.at.told.0) c.args.grain c.in_ok-place.place c.in_ok-place.ensures.ready
     c.args.volume c.args.block c.args.count blocks.result.0 blocks.result.1 touches
     (in_grain now.grain now.tables c.args.volume c.args.block c.args.count c.args.grain touches c.grain.result c.grain.ensures blocks.result.0 blocks.result.1 blocks.ensures.first blocks.ensures.count)
 
@@ -62,7 +62,7 @@ read_at-entry-requires-clause-number g c =
     let kept = c.ready_lane.ensures.kept in
     let blocks = c.blocks_in-first in
     let touches = touches_there c.args.self.now.store.control now c.args.volume c.args.block c.args.count c.args.grain kept.control c.requires.can in
-    let stands = kept.stands c.requires.at.0 c.requires.at.2.told.0 in
+    let stands = kept.stands c.requires.begins.w c.requires.begins.at.told.0 in
     let at = stands.each c.in_ok-place.place no_lane c.in_ok-place.ensures.ready.inside in
     subst (λ (z : GrainSize). grain_of_block z blocks.result.0 < 2 ^ 32) (sym at.grain_is)
     (number_small now.grain now.tables c.args.volume c.args.block c.args.count c.args.grain touches c.grain.result c.grain.ensures blocks.result.0 blocks.result.1 blocks.ensures.first blocks.ensures.count c.ranges.grain.fits)
@@ -76,11 +76,11 @@ log_entry-requires-clause-stands g c =
     let blocks = c.blocks_in-first in
     let touches = touches_there old.store.control now c.args.volume c.args.block c.args.count c.args.grain kept.control c.requires.can in
     let within = in_grain now.grain now.tables c.args.volume c.args.block c.args.count c.args.grain touches c.grain.result c.grain.ensures blocks.result.0 blocks.result.1 blocks.ensures.first blocks.ensures.count in
-    let at = c.requires.at in
-    let turn = read_turn g.M.MetaDisk.seen g.M.MetaDisk.may_leave g.M.MetaDisk.moment g.M.MetaDisk.left_since g.met.M.MetaDisk.only_now old c.args.history.now at.2.idle c.requires.live c.in_ok-place.ensures.room
+    let begins = c.requires.begins in
+    let turn = read_turn g.M.MetaDisk.seen g.M.MetaDisk.may_leave g.M.MetaDisk.moment g.M.MetaDisk.left_since g.met.M.MetaDisk.only_now old c.args.history.now begins.at.idle c.requires.begins.live c.in_ok-place.ensures.room
     c.ready_lane.new.self kept.control kept.grains kept.stands c.args.grain c.in_ok-place.place ready c.args.volume c.args.block c.args.count blocks.result.0 blocks.result.1 touches within
-    c.len.result c.read_at-entry.result c.read_at-entry.new.store c.read_at-entry.ensures.followed c.read_at-entry.ensures.others (omega arith) c.len.ensures at.0 at.2.told.1.entries at.2.told.0 in
-    (after_access old.store.control.grain at.0 (lane_of_grain at.0 c.args.grain) c.read_at-entry.result, turn.stands)
+    c.len.result c.read_at-entry.result c.read_at-entry.new.store c.read_at-entry.ensures.followed c.read_at-entry.ensures.others (omega arith) c.len.ensures begins.w begins.at.told.1.entries begins.at.told.0 in
+    (after_access old.store.control.grain begins.w (lane_of_grain begins.w c.args.grain) c.read_at-entry.result, turn.stands)
 
 pub returns-clause-made : goal.returns-clause-made
 returns-clause-made g c =
@@ -92,10 +92,10 @@ returns-clause-made g c =
     let blocks = c.blocks_in-first in
     let touches = touches_there old.store.control now c.args.volume c.args.block c.args.count c.args.grain kept.control c.requires.can in
     let within = in_grain now.grain now.tables c.args.volume c.args.block c.args.count c.args.grain touches c.grain.result c.grain.ensures blocks.result.0 blocks.result.1 blocks.ensures.first blocks.ensures.count in
-    let at = c.requires.at in
+    let begins = c.requires.begins in
     let AsksIt : GrainSize → Request → Whole → Type 0 = λ z r w. Asks z (agenda_of z old.script) w (0, r) in
     subst (λ n. StepMade g.M.MetaDisk.seen g.M.MetaDisk.may_leave g.M.MetaDisk.moment g.M.MetaDisk.left_since (always c.log_entry.result) old n history c.log_entry.new.history) (sym c.log_entry.ensures.others)
-    (read_made g.M.MetaDisk.seen g.M.MetaDisk.may_leave g.M.MetaDisk.moment g.M.MetaDisk.left_since g.met.M.MetaDisk.only_now old history at.2.idle c.requires.live c.in_ok-place.ensures.room
+    (read_made g.M.MetaDisk.seen g.M.MetaDisk.may_leave g.M.MetaDisk.moment g.M.MetaDisk.left_since g.met.M.MetaDisk.only_now old history begins.at.idle c.requires.begins.live c.in_ok-place.ensures.room
     c.ready_lane.new.self kept.control kept.grains kept.stands c.args.grain c.in_ok-place.place ready c.args.volume c.args.block c.args.count blocks.result.0 blocks.result.1 touches within
     c.len.result c.read_at-entry.result c.read_at-entry.new.store c.read_at-entry.ensures.followed c.read_at-entry.ensures.others (omega arith) c.len.ensures
     c.log_entry.new.self.script c.log_entry.result c.log_entry.new.history
