@@ -16,7 +16,7 @@ mod Finishing
 mod Fitting
 mod GoingAlong
 mod GoodIds
-pub mod Halting
+mod Halting
 mod Holding
 mod Idle
 mod InHand

@@ -1,5 +1,5 @@
 -- One line more: the noted store goes on to answer lines, or leaves what is told of the first entries; and the history only grows.
-use Rattle.std.proofs.Common.{◌≡◌, ℕ, ◌≤◌, List, [], ◌∷◌, ◌++◌, length, map, sym, ◌∙◌, subst, Option, Some, None, Result, Ok, Err, OnOk, IfErr, true}
+use Rattle.std.proofs.Common.{◌≡◌, ℕ, ◌≤◌, List, [], ◌∷◌, ◌++◌, length, map, sym, ◌∙◌, subst, Option, Some, None, Result, Ok, Err, OnOk, IfErr}
 use Rattle.std.proofs.lemmas.List.{map-append}
 use Rattle.fc_agenda.proofs.Going.{Goes-append, GoesSome-asking, GoesSome-whole}
 use Rattle.fc_agenda.specs.Goes.{Goes, GoesAsking, GoesSome, GoesToEnd}
@@ -15,12 +15,13 @@ use Rattle.fc_entry.specs.declared.entry.Entry.{Entry}
 use Rattle.fc_legal.proofs.Appending.{Goes-more_segments, IsLegal-run, IsRun-append, WantsMore-append, with_segments}
 use Rattle.fc_legal.proofs.Naming.{HasMore}
 use Rattle.fc_legal.specs.Added.{Adds, IsOf}
-use Rattle.fc_legal.specs.Agenda.{Agenda, Reading, Session, session_rules}
+use Rattle.fc_legal.specs.Agenda.{Agenda, Session, session_rules}
 use Rattle.fc_legal.specs.Run.{IsRun, WantsMore}
 use Rattle.fc_legal.specs.Whole.{Whole}
 use Rattle.fc_marks.specs.Meter.{Meter}
 use Rattle.fc_marks.specs.declared.error.NotedStop.{NotedStop}
 use Rattle.fc_marks.specs.declared.error.NotedStop.TheVariants.{LogFull, MetaFailed, MetaFull, NoMemory}
+use Rattle.fc_noted.specs.Lines.{LineEnds, LineStops, Ran}
 use Rattle.fc_noted.specs.Making.{KeepLanes, KeepsCount}
 use Rattle.fc_noted.specs.Noted.{IsNotedAt}
 use Rattle.fc_noted.specs.Stopping.{LeftAt, Leaves, LineHalts, Paid}
@@ -63,15 +64,10 @@ in_part grain line told next left old new adds = record { more = adds.more; entr
 module _ {C D : Type 0} (seen : D → List ℕ) (may_leave : D → List ℕ → Type 0) (fault_count calls : D → ℕ) where
   -- A line that was read is answered, or its fault is.
   pub line_is_answered : (read : Result Line WordFault) (result : Result (Unit {0}) NotedStop) (n now : Noted C D) (before after : HistoryState) →
-      OnOk result ((by : Reading) (bytes : List ℕ) (w : Whole) (least : List Row) → by w.books bytes ≡ read → IsNotedAt seen may_leave n before w least →
-      (next : Whole) × (least_next : List Row) × IsNotedAt seen may_leave now after next least_next
-      × Adds before after (λ more. GoesToEnd (session_rules n.store.control.grain by) (Session (single bytes ∷ [])) w more next)) →
-      IfErr result (λ stop. (by : Reading) (bytes : List ℕ) (w : Whole) (least : List Row) → by w.books bytes ≡ read → IsNotedAt seen may_leave n before w least →
-      LineHalts seen may_leave fault_count calls by stop n now bytes w before after) →
-      OnOk result (now.store.control.grain ≡ n.store.control.grain) → OnOk result (now.live ≡ true) →
+      OnOk result (LineEnds seen may_leave read n now before after) → IfErr result (λ stop. LineStops seen may_leave fault_count calls read stop n now before after) → Ran seen fault_count calls result n now after →
       (bytes : List ℕ) (w : Whole) (least : List Row) → stop_reading w.books bytes ≡ read → IsNotedAt seen may_leave n before w least → LineIsAnswered seen may_leave fault_count calls result n now bytes w before after
-  line_is_answered read (Ok done) n now before after answered halted grain live bytes w least is at = (live, grain, answered stop_reading bytes w least is at)
-  line_is_answered read (Err stop) n now before after answered halted grain live bytes w least is at = halted stop_reading bytes w least is at
+  line_is_answered read (Ok none) n now before after answered halted ran bytes w least is at = (ran.live, ran.grain, answered stop_reading bytes w least is at)
+  line_is_answered read (Err stop) n now before after answered halted ran bytes w least is at = halted stop_reading bytes w least is at
 
   -- ---- one line behind others
 

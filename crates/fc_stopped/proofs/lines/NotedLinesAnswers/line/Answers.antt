@@ -5,6 +5,11 @@ use Rattle.fc_stopped.proofs.Answering.{line_adds, line_answered, line_halted, l
 use Rattle.fc_stopped.specs.declared.lines.NotedLines.{NotedLines}
 use Rattle.fc_stopped.proofs.lines.NotedLinesAnswers.line.Goals as goal
 
+pub answer-requires-clause-begins : goal.answer-requires-clause-begins
+answer-requires-clause-begins g c =
+    let a = c.requires.stands.2 in
+    record { live = a.live; w = a.last; least = a.least; at = a.at; room = c.requires.room }
+
 pub returns-in-Err-clause-answered : goal.returns-in-Err-clause-answered
 returns-in-Err-clause-answered g c = λ start lines a.
     line_starved g.M.MetaDisk.seen g.M.MetaDisk.may_leave g.M.MetaDisk.fault_count g.M.MetaDisk.calls start c.args.self.now.noted c.args.self.now.stop lines c.args.line.now c.args.history.now a c.requires.room
