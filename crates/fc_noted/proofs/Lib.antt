@@ -19,6 +19,7 @@ mod GoodIds
 mod Halting
 mod Holding
 mod Idle
+mod Unready
 mod InHand
 mod KeepingLanes
 mod Lines

@@ -1,6 +1,5 @@
 -- A copy or a cleaning begins in the lane of its grain.
-use Rattle.std.proofs.Common.{Err, Ok, true, subst, sym, ap, refl}
-use Rattle.std.proofs.lemmas.Result.{err_from_is_err_and}
+use Rattle.std.proofs.Common.{Ok, true, subst, sym, ap}
 use Rattle.fc_base.specs.declared.request.Request.{Request}
 use Rattle.fc_base.specs.declared.size.GrainSize.{GrainSize}
 use Rattle.fc_desk.specs.Control.{ControlState}
@@ -11,11 +10,11 @@ use Rattle.fc_lane.specs.Workers.{ask_of}
 use Rattle.fc_lane.specs.declared.worker.Worker.{Worker}
 use Rattle.fc_legal.specs.Agenda.{Asks}
 use Rattle.fc_legal.specs.Whole.{Whole}
-use Rattle.fc_marks.specs.Stops.{stop_of_log}
-use Rattle.fc_noted.proofs.Begun.{begun_made, stopped_made}
+use Rattle.fc_noted.proofs.Begun.{begun_made}
 use Rattle.fc_noted.proofs.CallsMade.{no_error}
-use Rattle.fc_noted.proofs.Filling.{fill_can, fill_in_volume, fill_of_lane, fill_request, full_only, not_failed, worker_of, no_disk_failed}
+use Rattle.fc_noted.proofs.Filling.{fill_can, fill_in_volume, fill_of_lane, fill_request, worker_of}
 use Rattle.fc_noted.proofs.KeepingLanes.{begun_keeps, lanes_go_on, lanes_hold}
+use Rattle.fc_noted.proofs.Unready.{unready_counts, unready_made}
 use Rattle.fc_noted.specs.Making.{KeepLanes, StepMade, done}
 use Rattle.fc_script.specs.Asking.{HasNextFill, work_of}
 use Rattle.fc_script.specs.Script.{agenda_of}
@@ -29,12 +28,8 @@ ready_lane-requires g c = record { stands = (c.requires.begins.w, c.requires.beg
 
 pub returns-in_err-place-clause-made : goal.returns-in_err-place-clause-made
 returns-in_err-place-clause-made g c =
-    let p = err_from_is_err_and c.from_residual.result c.from_residual.ensures.1 in
-    rw (p.1, p.2) (
-    stopped_made g.M.MetaDisk.seen g.M.MetaDisk.may_leave g.M.MetaDisk.moment g.M.MetaDisk.left_since g.met.M.MetaDisk.only_now c.args.self.now c.args.history.now c.ready_lane.new.self
-    c.ready_lane.ensures.kept.control c.ready_lane.ensures.kept.grains c.ready_lane.ensures.kept.stands c.requires.begins.at.idle c.requires.begins.live c.requires.begins.room
-    (stop_of_log c.in_err-place.field-0.0) (full_only c.in_err-place.field-0.0 c.args.history.now c.in_err-place.ensures.stopped) (not_failed c.in_err-place.field-0.0)
-    )
+    unready_made g.M.MetaDisk.seen g.M.MetaDisk.may_leave g.M.MetaDisk.moment g.M.MetaDisk.left_since g.met.M.MetaDisk.only_now c.args.self.now c.args.history.now c.requires.begins c.ready_lane.new.self c.ready_lane.ensures.kept
+    c.in_err-place.field-0.0 c.in_err-place.ensures.stopped c.from_residual.result c.from_residual.ensures.1
 
 pub begin_fill-doing-requires-clause-there : goal.begin_fill-doing-requires-clause-there
 begin_fill-doing-requires-clause-there g c = c.in_ok-place.ensures.ready.inside
@@ -90,8 +85,7 @@ returns-clause-lanes g c =
 
 pub returns-in_err-place-clause-counted : goal.returns-in_err-place-clause-counted
 returns-in_err-place-clause-counted g c =
-    let p = err_from_is_err_and c.from_residual.result c.from_residual.ensures.1 in
-    rw (p.1, p.2) (no_calls g.M.MetaDisk.seen g.M.MetaDisk.fault_count g.M.MetaDisk.calls (Err (stop_of_log c.in_err-place.field-0.0)) c.args.self.now (record c.args.self.now { store = c.ready_lane.new.self }) refl refl (no_disk_failed c.in_err-place.field-0.0))
+    unready_counts g.M.MetaDisk.seen g.M.MetaDisk.fault_count g.M.MetaDisk.calls c.args.self.now c.ready_lane.new.self c.in_err-place.field-0.0 c.from_residual.result c.from_residual.ensures.1
 
 pub returns-clause-counted : goal.returns-clause-counted
 returns-clause-counted g c =
