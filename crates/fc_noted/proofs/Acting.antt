@@ -58,9 +58,10 @@ pub about_image : (old now : StoreView) (d : Decision) (gone : VolId) (control :
     control ≡ now.control → lanes ≡ now.lanes → image ≡ without gone (meta_of (kept_by_parts control lanes)) → IsImageAfter old d image
 about_image old now d gone control lanes image r e c l is = about now gone (stayed old now r) e (image_without_is now control lanes gone image c l is)
 
-pub acted_image : (old new : StoreView) (d : Decision) (control : ControlState) (lanes : List LaneView) (image : MetaImage) → HasActed d old new → removed_by d.events ≡ None → control ≡ new.control → lanes ≡ new.lanes →
+pub acted_image : (old mid new : StoreView) (d : Decision) (control : ControlState) (lanes : List LaneView) (image : MetaImage) → IsReserved old mid → IsDone d mid new → removed_by d.events ≡ None →
+    control ≡ new.control → lanes ≡ new.lanes →
     (let parts : StoreView = record { control = control; lanes = lanes } in (w : Whole) → StandsFor parts w → image ≡ meta_of (kept_of w (lost_grains lanes w.books.tables.volumes))) → IsImageAfter old d image
-acted_image old new d control lanes image done e c l is = acted new done e (image_is new control lanes image c l is)
+acted_image old mid new d control lanes image r was e c l is = acted new (acted_on old mid mid new d r refl was) e (image_is new control lanes image c l is)
 
 -- a volume that isn't found
 pub none_gone : (o : Option VolId) → ((id : VolId) → o ≡ Some id → ⊥) → o ≡ None

@@ -90,8 +90,7 @@ returns-in_err-image-2-clause-undone g c =
 pub make_anew-requires-then-has_action-clause-ids : goal.make_anew-requires-then-has_action-clause-ids
 make_anew-requires-then-has_action-clause-ids g c =
     c.requires.good c.in_ok-image-2.image
-    (acted_image c.args.self.now.store c.apply_all-2.new.self c.args.decision.now c.control-then-has_action.result.now c.all_lanes-then-has_action.result.now c.in_ok-image-2.image
-    (acted_on c.args.self.now.store c.reserve_all.new.self c.reserve_all.new.self c.apply_all-2.new.self c.args.decision.now c.reserve_all.ensures.reserved refl c.apply_all-2.ensures.done)
+    (acted_image c.args.self.now.store c.reserve_all.new.self c.apply_all-2.new.self c.args.decision.now c.control-then-has_action.result.now c.all_lanes-then-has_action.result.now c.in_ok-image-2.image c.reserve_all.ensures.reserved c.apply_all-2.ensures.done
     (sym c.removed_by.ensures ∙ none_gone c.removed_by.result c.in_default.not-Some) c.control-then-has_action.ensures c.all_lanes-then-has_action.ensures c.in_ok-image-2.ensures)
 
 pub returns-in_err-make_anew-2-clause-undone : goal.returns-in_err-make_anew-2-clause-undone
@@ -107,16 +106,14 @@ returns-in_err-make_anew-2-clause-undone g c =
 pub returns-in_err-make_anew-2-clause-any_moment : goal.returns-in_err-make_anew-2-clause-any_moment
 returns-in_err-make_anew-2-clause-any_moment g c =
     let after : IsImageAfter c.args.self.now.store c.args.decision.now c.in_ok-image-2.image =
-    acted_image c.args.self.now.store c.apply_all-2.new.self c.args.decision.now c.control-then-has_action.result.now c.all_lanes-then-has_action.result.now c.in_ok-image-2.image
-    (acted_on c.args.self.now.store c.reserve_all.new.self c.reserve_all.new.self c.apply_all-2.new.self c.args.decision.now c.reserve_all.ensures.reserved refl c.apply_all-2.ensures.done)
+    acted_image c.args.self.now.store c.reserve_all.new.self c.apply_all-2.new.self c.args.decision.now c.control-then-has_action.result.now c.all_lanes-then-has_action.result.now c.in_ok-image-2.image c.reserve_all.ensures.reserved c.apply_all-2.ensures.done
     (sym c.removed_by.ensures ∙ none_gone c.removed_by.result c.in_default.not-Some) c.control-then-has_action.ensures c.all_lanes-then-has_action.ensures c.in_ok-image-2.ensures in
     anew_by_image g.M.MetaDisk.seen g.M.MetaDisk.may_leave g.M.MetaDisk.moment g.M.MetaDisk.left_since c.args.self.now c.args.decision.now (disk_of c.make_anew-then-has_action.new.self.meta) c.in_ok-image-2.image after c.make_anew-then-has_action.ensures.any_moment
 
 pub returns-in_ok-make_anew-2-clause-any_moment : goal.returns-in_ok-make_anew-2-clause-any_moment
 returns-in_ok-make_anew-2-clause-any_moment g c =
     let after : IsImageAfter c.args.self.now.store c.args.decision.now c.in_ok-image-2.image =
-    acted_image c.args.self.now.store c.apply_all-2.new.self c.args.decision.now c.control-then-has_action.result.now c.all_lanes-then-has_action.result.now c.in_ok-image-2.image
-    (acted_on c.args.self.now.store c.reserve_all.new.self c.reserve_all.new.self c.apply_all-2.new.self c.args.decision.now c.reserve_all.ensures.reserved refl c.apply_all-2.ensures.done)
+    acted_image c.args.self.now.store c.reserve_all.new.self c.apply_all-2.new.self c.args.decision.now c.control-then-has_action.result.now c.all_lanes-then-has_action.result.now c.in_ok-image-2.image c.reserve_all.ensures.reserved c.apply_all-2.ensures.done
     (sym c.removed_by.ensures ∙ none_gone c.removed_by.result c.in_default.not-Some) c.control-then-has_action.ensures c.all_lanes-then-has_action.ensures c.in_ok-image-2.ensures in
     anew_by_image g.M.MetaDisk.seen g.M.MetaDisk.may_leave g.M.MetaDisk.moment g.M.MetaDisk.left_since c.args.self.now c.args.decision.now (disk_of c.make_anew-then-has_action.new.self.meta) c.in_ok-image-2.image after c.make_anew-then-has_action.ensures.any_moment
 
@@ -128,8 +125,7 @@ returns-in_ok-make_anew-2-clause-done g c =
 pub returns-in_ok-make_anew-2-clause-anew : goal.returns-in_ok-make_anew-2-clause-anew
 returns-in_ok-make_anew-2-clause-anew g c =
     let after : IsImageAfter c.args.self.now.store c.args.decision.now c.in_ok-image-2.image =
-    acted_image c.args.self.now.store c.apply_all-2.new.self c.args.decision.now c.control-then-has_action.result.now c.all_lanes-then-has_action.result.now c.in_ok-image-2.image
-    (acted_on c.args.self.now.store c.reserve_all.new.self c.reserve_all.new.self c.apply_all-2.new.self c.args.decision.now c.reserve_all.ensures.reserved refl c.apply_all-2.ensures.done)
+    acted_image c.args.self.now.store c.reserve_all.new.self c.apply_all-2.new.self c.args.decision.now c.control-then-has_action.result.now c.all_lanes-then-has_action.result.now c.in_ok-image-2.image c.reserve_all.ensures.reserved c.apply_all-2.ensures.done
     (sym c.removed_by.ensures ∙ none_gone c.removed_by.result c.in_default.not-Some) c.control-then-has_action.ensures c.all_lanes-then-has_action.ensures c.in_ok-image-2.ensures in
     subst (λ (b : Bool). AnewOr g.M.MetaDisk.seen g.M.MetaDisk.may_leave b c.args.decision.now c.args.self.now c.make_anew-then-has_action.new.self)
     (sym (first_true c.args.has_action (is_some (removed_by c.args.decision.now.events)) c.if-has_action.true))
