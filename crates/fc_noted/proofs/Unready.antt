@@ -20,7 +20,7 @@ module _ {C D : Type 0} (seen : D → List ℕ) (may_leave : D → List ℕ → 
   unready_made stop is (Ok none) told = absurd told
   unready_made stop is (Err e) told =
       subst (λ (s : NotedStop). StepMade seen may_leave moment left_since (Err s) old (record old { store = roomy }) history history) (sym told)
-      (stopped_made seen may_leave moment left_since only_now old history roomy kept.control kept.grains kept.stands begins.at.idle begins.live begins.room (stop_of_log stop) (full_only stop history is) (not_failed stop))
+      (stopped_made seen may_leave moment left_since only_now old history begins roomy kept (stop_of_log stop) (full_only stop history is) (not_failed stop))
 
 -- no disk failed
 module _ {C D : Type 0} (seen : D → List ℕ) (fault_count calls : D → ℕ) (old : Noted C D) (roomy : StoreView) where

@@ -54,7 +54,6 @@ begin_fill-doing-requires-clause-ready g c = c.in_ok-place.ensures.ready.ready n
 
 pub returns-clause-made : goal.returns-clause-made
 returns-clause-made g c =
-    let kept = c.ready_lane.ensures.kept in
     let old = c.args.self.now in
     let history = c.args.history.now in
     let place = c.in_ok-place.place in
@@ -63,8 +62,7 @@ returns-clause-made g c =
     let grain : GrainSize = old.store.control.grain in
     let Begins : Worker → Type 0 = λ worker. HasBegun (lane_in c.ready_lane.new.self place) c.len.result 0 (ask_of worker c.args.map c.args.grain) doing (lane_in store place) in
     subst (λ n. StepMade g.M.MetaDisk.seen g.M.MetaDisk.may_leave g.M.MetaDisk.moment g.M.MetaDisk.left_since (Ok true) old n history history) (sym c.take_up.ensures)
-    (begun_made g.M.MetaDisk.seen g.M.MetaDisk.may_leave g.M.MetaDisk.moment g.M.MetaDisk.left_since g.met.M.MetaDisk.only_now old history c.ready_lane.new.self
-    kept.control kept.grains kept.stands c.requires.begins.at.idle c.requires.begins.live c.requires.begins.room
+    (begun_made g.M.MetaDisk.seen g.M.MetaDisk.may_leave g.M.MetaDisk.moment g.M.MetaDisk.left_since g.met.M.MetaDisk.only_now old history c.requires.begins c.ready_lane.new.self c.ready_lane.ensures.kept
     place c.len.result c.in_ok-place.ensures.ready.inside (ask_of (worker_of c.args.cleans) c.args.map c.args.grain) doing store (subst Begins c.worker_of-worker.ensures c.begin_fill-doing.ensures.begun) c.len.ensures
     c.begin_fill-doing.ensures.others
     (λ w up. subst (λ (r : Request). Asks grain (agenda_of grain old.script) w (0, r)) (fill_request c.args.cleans c.args.map c.args.grain) (c.requires.next w up))

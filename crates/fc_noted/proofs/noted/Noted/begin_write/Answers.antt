@@ -59,14 +59,12 @@ begin_write-requires-clause-ready g c = c.in_ok-place.ensures.ready.ready no_lan
 
 pub returns-in-UnderWay-clause-made : goal.returns-in-UnderWay-clause-made
 returns-in-UnderWay-clause-made g c =
-    let kept = c.ready_lane.ensures.kept in
     let old = c.args.self.now in
     let history = c.args.history.now in
     let part : WritePart = record { volume = c.args.volume; block = c.blocks_in-first.result.0; count = c.blocks_in-first.result.1; byte = c.args.byte } in
     let r = blocks g (goal.at.returns-in-UnderWay-clause-made g c).After-len in
     subst (λ n. StepMade g.M.MetaDisk.seen g.M.MetaDisk.may_leave g.M.MetaDisk.moment g.M.MetaDisk.left_since (Ok true) old n history history) (sym c.take_up.ensures)
-    (begun_made g.M.MetaDisk.seen g.M.MetaDisk.may_leave g.M.MetaDisk.moment g.M.MetaDisk.left_since g.met.M.MetaDisk.only_now old history c.ready_lane.new.self
-    kept.control kept.grains kept.stands c.requires.begins.at.idle c.requires.begins.live c.requires.begins.room
+    (begun_made g.M.MetaDisk.seen g.M.MetaDisk.may_leave g.M.MetaDisk.moment g.M.MetaDisk.left_since g.met.M.MetaDisk.only_now old history c.requires.begins c.ready_lane.new.self c.ready_lane.ensures.kept
     c.in_ok-place.place c.len.result c.in_ok-place.ensures.ready.inside (WriteAsk part) c.in-UnderWay.doing c.begin_write.new.self c.in-UnderWay.ensures.begun c.len.ensures c.in-UnderWay.ensures.others
     (λ w up. asks_blocks r (Write c.args.byte) (agenda_of old.store.control.grain old.script) w (c.requires.next w up)) (λ w up. access_in_volume r w up (Write c.args.byte)) c.in_ok-place.ensures.room)
 

@@ -8,12 +8,13 @@ use Rattle.fc_noted.proofs.KeepingLanes.{lanes_stay, lanes_still}
 use Rattle.fc_noted.proofs.Refusing.{refused_made}
 use Rattle.fc_noted.specs.Making.{StepMade, always}
 use Rattle.fc_noted.proofs.MeteringNoted.{memory_alone, no_calls}
+use Rattle.fc_store.proofs.ReadyLane.{as_roomy}
 use Rattle.fc_noted.proofs.noted.Noted.refuse.Goals as goal
 
 pub returns-then-is_full-clause-made : goal.returns-then-is_full-clause-made
 returns-then-is_full-clause-made g c =
-    stopped_made g.M.MetaDisk.seen g.M.MetaDisk.may_leave g.M.MetaDisk.moment g.M.MetaDisk.left_since g.met.M.MetaDisk.only_now c.args.self.now c.args.history.now c.args.self.now.store refl refl (λ w up. up)
-    c.requires.begins.at.idle c.requires.begins.live c.requires.begins.room LogFull (λ e. c.if-is_full.ensures.full) (λ e. let q : LogFull ≡ MetaFailed = e in cc)
+    stopped_made g.M.MetaDisk.seen g.M.MetaDisk.may_leave g.M.MetaDisk.moment g.M.MetaDisk.left_since g.met.M.MetaDisk.only_now c.args.self.now c.args.history.now c.requires.begins c.args.self.now.store
+    (as_roomy c.args.self.now.store) LogFull (λ e. c.if-is_full.ensures.full) (λ e. let q : LogFull ≡ MetaFailed = e in cc)
 
 pub log_entry-requires-clause-stands : goal.log_entry-requires-clause-stands
 log_entry-requires-clause-stands g c = (c.requires.begins.w, c.requires.begins.at.told.0)
