@@ -1,6 +1,5 @@
 -- What a history cost of the calls of metadata's disk, while it hadn't failed and where it did.
-use Rattle.std.proofs.Common.{◌≡◌, ℕ, ◌+◌, ◌-◌, ◌^◌, ◌<◌, ◌≤◌, List, Option, Some, refl, sym, ap, subst, ◌∙◌, arith, Result, Ok, Err}
-use Rattle.std.specs.Prelude.{min}
+use Rattle.std.proofs.Common.{◌≡◌, ℕ, ◌+◌, ◌-◌, ◌^◌, ◌<◌, List, Some, refl, ap, subst, ◌∙◌, arith, Ok, Err}
 use Rattle.fc_base.specs.Count.{HasRisen}
 use Rattle.fc_base.specs.declared.size.GrainSize.{GrainSize}
 use Rattle.fc_base.specs.declared.size.GrainSize.TheVariants.{K64}
@@ -15,7 +14,7 @@ use Rattle.fc_meta.specs.States.{disk_of, room_of}
 use Rattle.fc_noted.specs.Making.{KeepsCount}
 use Rattle.fc_noted.specs.Metered.{GoesInto, Metered}
 use Rattle.fc_noted.specs.Noted.{Counts}
-use Rattle.fc_noted.specs.Stopping.{IsAskedSoon, LeftAt, Paid}
+use Rattle.fc_noted.specs.Stopping.{LeftAt, Paid}
 use Rattle.fc_noted.specs.declared.noted.Noted.{Noted}
 use Rattle.fc_stopped.proofs.Counting.{more_are, more_then, risen_some}
 use Rattle.fc_stopped.specs.Calls.{CallsLeft, ComesTo, CostLess}

@@ -1,5 +1,5 @@
 -- Memory was wanted before anything was read; or the first image isn't written; or the session runs.
-use Rattle.std.proofs.Common.{◌≡◌, ℕ, ◌++◌, List, [], Vec, Global, length, map, ap, sym, subst, ◌∙◌, arith, refl, vec_len, vec_capacity}
+use Rattle.std.proofs.Common.{◌≡◌, ◌++◌, List, [], Vec, Global, length, map, ap, sym, subst, ◌∙◌, arith, refl, vec_len, vec_capacity}
 use Rattle.fc_call.specs.Call.{Call}
 use Rattle.fc_format.specs.Halves.{half_size}
 use Rattle.fc_grains.specs.Grains.{total_of}

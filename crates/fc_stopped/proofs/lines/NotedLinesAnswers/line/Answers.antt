@@ -1,5 +1,5 @@
 -- Memory was wanted to read the line; or it is answered, or a part of it is.
-use Rattle.std.proofs.Common.{Some, Ok, Err, ap, ◌∙◌}
+use Rattle.std.proofs.Common.{Ok, Err, ap, ◌∙◌}
 use Rattle.fc_run.proofs.GrowingLemmas.{GrowsTo-same}
 use Rattle.fc_stopped.proofs.Answering.{line_adds, line_answered, line_halted, line_starved}
 use Rattle.fc_stopped.specs.declared.lines.NotedLines.{NotedLines}
