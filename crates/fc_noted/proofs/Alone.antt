@@ -19,11 +19,9 @@ use Rattle.fc_image.specs.declared.record.MetaRecord.{MetaRecord}
 use Rattle.fc_kept.specs.Disks.{NamedDisk}
 use Rattle.fc_kept.specs.Images.{kept_in}
 use Rattle.fc_kept.specs.Kept.{Kept, kept_after}
-use Rattle.fc_kept.specs.Prefix.{AreStepsOf}
 use Rattle.fc_kept.specs.Sound.{IsSoundImage}
 use Rattle.fc_lane.specs.Lane.{LaneView}
 use Rattle.fc_lane.specs.declared.doing.Doing.{Doing}
-use Rattle.fc_legal.specs.Agenda.{Asks}
 use Rattle.fc_legal.specs.Whole.{Whole}
 use Rattle.fc_marks.specs.Meter.{IsMetered, Meter, with_record}
 use Rattle.fc_marks.specs.declared.error.NotedStop.{NotedStop}
@@ -32,28 +30,23 @@ use Rattle.fc_meta.specs.Answers.{LeavesEither, found_with, more_calls}
 use Rattle.fc_meta.specs.States.{IsResting, found, room_of}
 use Rattle.fc_meta.specs.declared.meta.Meta.{Meta}
 use Rattle.fc_metadisk.specs.Disk.{LeavesOnly}
-use Rattle.fc_noted.proofs.Data.{acted_none, hand_none, have_still, matches_none, same_ask, since_then}
+use Rattle.fc_noted.proofs.Data.{acted_none, doing_goes, hand_none, have_still, matches_none, same_ask}
 use Rattle.fc_noted.proofs.Fitting.{IsFit, alone_fits}
 use Rattle.fc_noted.proofs.GoingAlong.{matches_along}
 use Rattle.fc_noted.proofs.InHand.{alone_recovered, now_inside, recovered_of}
 use Rattle.fc_noted.proofs.MeteringHand.{moved_so, uncopied_so}
 use Rattle.fc_noted.proofs.MeteringNoted.{goes_into_record, so_far_put}
 use Rattle.fc_noted.proofs.Putting.{by_grain, put_keeps, put_leaves, put_says, recovers_with, recovers_without, way_leaves, way_stopped}
-use Rattle.fc_noted.proofs.Safe.{safe_by}
 use Rattle.fc_noted.proofs.Stepping.{way_goes, way_stops}
 use Rattle.fc_noted.specs.Making.{CountsInto, WayMade, done}
 use Rattle.fc_noted.specs.Noted.{IsDoing}
 use Rattle.fc_noted.specs.Stopping.{HasStopped, HoldStill, HoldsTheSame, LeavesRecoverable, MayBeRecovered, MoreFailed}
 use Rattle.fc_noted.specs.declared.noted.Noted.{Noted}
 use Rattle.fc_noted.specs.declared.noted.UnderWay.{UnderWay}
-use Rattle.fc_parts.specs.Law.{IsInVolume}
-use Rattle.fc_script.specs.Asking.{Fits}
-use Rattle.fc_script.specs.Script.{agenda_of}
 use Rattle.fc_stands.specs.Store.{StoreView}
 use Rattle.fc_steps.specs.Asking.{request_of}
 use Rattle.fc_steps.specs.Moving.{SameLane}
 use Rattle.fc_steps.specs.UnderWay.{next_of}
-use Rattle.fc_steps.specs.declared.ask.Ask.{Ask}
 use Rattle.fc_steps.specs.declared.body.StepEnd.{StepEnd}
 use Rattle.fc_steps.specs.declared.stepping.Next.TheVariants.{Move as NextMove}
 use Rattle.fc_steps.specs.declared.stop.Stop.{Stop}
@@ -67,6 +60,7 @@ use Rattle.law_noted.proofs.Finding.{stop_law_holds}
 use Rattle.law_noted.proofs.HandNext.{alone}
 use Rattle.law_noted.proofs.HandOn.{put_alone}
 use Rattle.law_noted.proofs.Losing.{uncopied_agree}
+use Rattle.law_noted.proofs.OldOrNew.{safe_by}
 use Rattle.law_noted.specs.Advancing.{HasTorn, uncopied}
 use Rattle.law_noted.specs.Came.{steps_done}
 use Rattle.law_noted.specs.DataSteps.{GoAlong, IsInHand, IsNextStep, copies_nothing}
@@ -244,30 +238,12 @@ module _ {C D : Type 0} (seen : D → List ℕ) (may_leave : D → List ℕ → 
 
       alone_doing : IsResting seen may_leave meta → found seen meta ≡ found_with (found seen n.meta) (uncopied m ∷ []) → room_of seen meta ≡ room_of seen n.meta → Puts → IsDoing seen may_leave new way_new history w least
       alone_doing rests says size metered =
-          record {
-            begun = d.begun;
-            few = d.few;
-            told = d.told;
-            inside = d.inside;
-            since = since_then d.begun n.store store way.place d.since is;
-            fits = subst (λ (s : StoreView). Fits s.control.grain s.control.tables n.script) (sym is) d.fits;
-            under = moved.0.under;
-            number = ap (λ (z : Doing). z.number) step.after ∙ d.number;
-            by_main = ap (λ (z : Doing). z.actor) step.after ∙ d.by_main;
-            asked = subst (λ (a : Ask). Asks grain (agenda_of grain n.script) w (0, request_of a)) (sym ask_is) d.asked;
-            steps = d.steps;
-            in_volume = subst (λ (a : Ask). IsInVolume grain w (request_of a)) (sym ask_is) d.in_volume;
-            steps_are = subst (λ (a : Ask). AreStepsOf grain w (request_of a) d.steps) (sym ask_is) d.steps_are;
-            before = d.before;
-            run = d.run;
-            point = noted x d.point;
-            came = moved.0.came;
-            keeps = put_keeps seen may_leave grain old new w way.due d.point x d.keeps fit rests says refl d.keeps.rows
-                (have_still n.disks n.store store way.place inside is (stay_new.ids ∙ sym stay_old.ids) (stay_new.disks ∙ sym stay_old.disks) d.keeps.volumes)
-                (matches_by (kept_after d.point.kept x) moved.1);
-            counts = so_far_put seen may_leave grain old new way way_new history.entries w d.steps d.before.kept.rows d.point.kept.rows (noted x d.point).kept.rows d.counts x
-                (moved_so grain w least way.place way.doing begun now d.steps d.before d.point hand d.counts.actions (acted_none seen may_leave old way history w least d none) m end doing then next copies is_next) size metered counted;
-          }
+          doing_goes seen may_leave old way history w least d new doing None (noted x d.point) is refl (ap (λ (z : Doing). z.number) step.after) (ap (λ (z : Doing). z.actor) step.after) ask_is moved.0
+          (put_keeps seen may_leave grain old new w way.due d.point x d.keeps fit rests says refl d.keeps.rows
+          (have_still n.disks n.store store way.place inside is (stay_new.ids ∙ sym stay_old.ids) (stay_new.disks ∙ sym stay_old.disks) d.keeps.volumes)
+          (matches_by (kept_after d.point.kept x) moved.1))
+          (so_far_put seen may_leave grain old new way way_new history.entries w d.steps d.before.kept.rows d.point.kept.rows (noted x d.point).kept.rows d.counts x
+          (moved_so grain w least way.place way.doing begun now d.steps d.before d.point hand d.counts.actions (acted_none seen may_leave old way history w least d none) m end doing then next copies is_next) size metered counted)
 
   pub alone_made : (end : StepEnd) (doing : Doing) (store : StoreView) (step : IsStepOf way.doing (lane_in n.store way.place) end doing (lane_in store way.place)) (is : IsInLane way.place n.store store) → IsResting seen may_leave meta →
       found seen meta ≡ found_with (found seen n.meta) (uncopied m ∷ []) → room_of seen meta ≡ room_of seen n.meta → Puts → (history : HistoryState) →

@@ -1,5 +1,5 @@
 -- Calls of the disk of metadata by one part of a line, and by another behind it.
-use Rattle.std.proofs.Common.{◌≡◌, ℕ, ◌+◌, ◌≤◌, List, ap, subst, ◌∙◌, arith}
+use Rattle.std.proofs.Common.{◌≡◌, ℕ, ◌+◌, List, ap, subst, ◌∙◌, arith}
 use Rattle.std.specs.Prelude.{Err, IsErrOf, Ok, OnOk, Result}
 use Rattle.fc_base.specs.Count.{HasRisen}
 use Rattle.fc_marks.specs.declared.error.NotedStop.TheVariants.{MetaFailed}

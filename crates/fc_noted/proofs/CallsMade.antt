@@ -1,5 +1,5 @@
 -- What the count of calls says of a noted store whose metadata stays, or is made anew.
-use Rattle.std.proofs.Common.{◌≡◌, ℕ, ◌/◌, ◌≤◌, List, length, Result, Ok, Err, OnOk, refl, sym, ap, subst, ◌∙◌, arith}
+use Rattle.std.proofs.Common.{◌≡◌, ℕ, ◌/◌, List, length, Result, Ok, Err, OnOk, refl, sym, ap, subst, ◌∙◌, arith}
 use Rattle.std.specs.Prelude.{IsErrOf}
 use Rattle.fc_base.specs.Count.{HasRisen}
 use Rattle.fc_desk.specs.Control.{ControlState}
@@ -8,7 +8,7 @@ use Rattle.fc_format.specs.Halves.{Found, Image}
 use Rattle.fc_image.specs.declared.image.MetaImage.{MetaImage}
 use Rattle.fc_legal.specs.Whole.{Whole}
 use Rattle.fc_marks.specs.Meter.{IsCalledUpTo, IsMetered}
-use Rattle.fc_marks.specs.declared.error.NotedStop.TheVariants.{MetaFailed}
+use Rattle.fc_marks.specs.declared.error.NotedStop.TheVariants.{LogFull, MetaFailed, NoMemory as WantsMemory}
 use Rattle.fc_marks.specs.declared.error.NotedStop.{NotedStop}
 use Rattle.fc_meta.specs.Answers.{more_calls}
 use Rattle.fc_meta.specs.States.{disk_of, room_of}
@@ -24,6 +24,16 @@ on_ok (Err e) P p = tt
 -- an error told by another result
 pub failed_as : {T U : Type 0} (stop : NotedStop) → IsErrOf {T = T} (Err stop) MetaFailed → IsErrOf {T = U} (Err stop) MetaFailed
 failed_as stop e = cc
+
+-- what is done is no error; and the disk hasn't failed where memory was wanted, or where the history is full
+pub no_error : {T : Type 0} (x : T) → IsErrOf {T = T} (Ok x) MetaFailed → ⊥
+no_error x e = cc
+
+pub memory_wanted : {T : Type 0} → IsErrOf {T = T} (Err WantsMemory) MetaFailed → ⊥
+memory_wanted e = cc
+
+pub log_full : {T : Type 0} → IsErrOf {T = T} (Err LogFull) MetaFailed → ⊥
+log_full e = cc
 
 -- what is found is one image
 pub one_image : (f : Found) (a b : MetaImage) → f ≡ Image a → f ≡ Image b → a ≡ b

@@ -13,7 +13,7 @@ use Rattle.fc_books.specs.Deciding.{settle}
 use Rattle.fc_changed.specs.Row.{Row}
 use Rattle.fc_entry.specs.HistoryState.{HistoryState}
 use Rattle.fc_follow.specs.Following.{restarts}
-use Rattle.fc_kept.specs.Actions.{Action, Action.Fold, actions_of_command, has_effect}
+use Rattle.fc_kept.specs.Actions.{Action.Fold, actions_of_command, has_effect}
 use Rattle.fc_legal.specs.Agenda.{Asks}
 use Rattle.fc_legal.specs.Steps.{after_settling, decided_on}
 use Rattle.fc_legal.specs.Whole.{Whole}
@@ -71,7 +71,7 @@ module _ (grain : GrainSize) (w : Whole) (command : Command) (decisions : ℕ) (
 
 -- calls behind others
 pub calls_more : (n calls old new : ℕ) → old ≡ more_calls calls 0 → new ≡ more_calls n old → new ≡ more_calls (calls + n) 0
-calls_more n calls old new is then = then ∙ (ap (more_calls n) is ∙ (calls_added n calls 0 ∙ ap (λ (k : ℕ). more_calls k 0) (let e : n + calls ≡ calls + n = omega arith in e)))
+calls_more n calls old new is added = added ∙ (ap (more_calls n) is ∙ (calls_added n calls 0 ∙ ap (λ (k : ℕ). more_calls k 0) (let e : n + calls ≡ calls + n = omega arith in e)))
 
 -- the disk failed on the way
 pub counts_into : {C D : Type 0} (seen : D → List ℕ) (may_leave : D → List ℕ → Type 0) (old new : Noted C D) (history : HistoryState) (w : Whole) (least : List Row) (at : IsNotedAt seen may_leave old history w least) (command : Command) →

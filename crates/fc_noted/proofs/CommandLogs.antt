@@ -1,5 +1,5 @@
 -- A command is logged: what a step makes of it, by what its entry leads to.
-use Rattle.std.proofs.Common.{◌≡◌, ℕ, ◌<◌, ◌≤◌, Bool, true, Option, None, List, [], ◌∷◌, ◌++◌, length, Result, Ok, Err, OnOk, OnErr, IfErr, IsErrOf, refl, sym, ap, subst, ◌∙◌, inr}
+use Rattle.std.proofs.Common.{◌≡◌, ℕ, ◌<◌, ◌≤◌, true, Option, None, List, [], ◌∷◌, ◌++◌, length, Result, Ok, Err, OnOk, OnErr, IfErr, refl, sym, ap, subst, ◌∙◌, inr}
 use Rattle.fc_agenda.specs.Goes.{stays}
 use Rattle.fc_base.specs.Tables.{Tables}
 use Rattle.fc_base.specs.declared.command.Command.{Command}
@@ -75,11 +75,8 @@ module _ {C D : Type 0} (seen : D → List ℕ) (may_leave : D → List ℕ → 
         any_moment = λ w least at. any_moment before w least room (rest w least at);
         stopped = λ w least at. (refl, stopped before w least room (rest w least at));
         full = λ e. absurd (other (same_stop stop e));
-        into = λ e w least at. into (failed_stop stop e) before w least room (rest w least at);
+        into = λ e w least at. into (same_stop stop e) before w least room (rest w least at);
       }
-    where
-      failed_stop : (s : NotedStop) → IsErrOf {T = Bool} (Err s) MetaFailed → s ≡ MetaFailed
-      failed_stop s e = cc
 
   -- with whatever script
   module _ (script : Script) where

@@ -29,6 +29,7 @@ use Rattle.fc_marks.specs.declared.error.NotedStop.TheVariants.{LogFull, MetaFai
 use Rattle.fc_marks.specs.declared.marks.Mark.{Mark}
 use Rattle.fc_meta.specs.States.{room_of}
 use Rattle.fc_metadisk.specs.Disk.{LeavesOnly}
+use Rattle.fc_noted.proofs.Counting.{counted_same}
 use Rattle.fc_noted.proofs.Data.{acted_none, hand_none, matches_none, since_then}
 use Rattle.fc_noted.proofs.Failing.{failed_same}
 use Rattle.fc_noted.proofs.Finishing.{is_right, not_of_all, rows, runs, store_stands}
@@ -36,8 +37,6 @@ use Rattle.fc_noted.proofs.Holding.{HoldSame, have_same, match_same, one_same}
 use Rattle.fc_noted.proofs.InHand.{doing_counted, now_inside, recovered_of, safe}
 use Rattle.fc_noted.proofs.MeteringHand.{ends_so}
 use Rattle.fc_noted.proofs.Moments.{doing_found, hold_either, still_leaves}
-use Rattle.fc_noted.proofs.Rising.{counted_same}
-use Rattle.fc_noted.proofs.Safe.{safe_by}
 use Rattle.fc_noted.proofs.Stepping.{same_stop}
 use Rattle.fc_noted.specs.Making.{GoesBehind, WayMade}
 use Rattle.fc_noted.specs.Metered.{AreActionsOf, Metered, Metered.access, after_actions}
@@ -54,6 +53,7 @@ use Rattle.fc_steps.specs.UnderWay.{next_of}
 use Rattle.fc_steps.specs.declared.stepping.Next.TheVariants.{Over}
 use Rattle.fc_store.specs.Stepping.{IsInLane, lane_in, no_lane}
 use Rattle.law_noted.proofs.HandOn.{found as hand_found}
+use Rattle.law_noted.proofs.OldOrNew.{safe_by}
 use Rattle.law_noted.specs.DataSteps.{IsInHand}
 use Rattle.law_noted.specs.Going.{IsEntryOf, marks_left, volume_noted}
 use Rattle.law_noted.specs.Runs.{HasRun}

@@ -1,10 +1,9 @@
 -- A copy or a cleaning that is next can begin in the lane of its grain.
-use Rattle.std.proofs.Common.{◌≡◌, ℕ, ◌%◌, ◌<◌, ◌≤◌, Bool, true, false, cond, Option, Some, None, List, length, slice_index_or, refl, sym, ap, subst, ◌∙◌}
+use Rattle.std.proofs.Common.{◌≡◌, ℕ, ◌%◌, ◌≤◌, Bool, true, false, cond, Option, Some, None, length, slice_index_or, refl, ap, subst}
 use Rattle.std.specs.Prelude.{Err, IsErrOf, IsSome}
 use Rattle.std.proofs.lemmas.List.{get_or_default}
 use Rattle.fc_base.specs.declared.ids.GrainNo.{GrainNo}
 use Rattle.fc_base.specs.declared.ids.MapId.{MapId}
-use Rattle.fc_base.specs.declared.request.Request.{Request}
 use Rattle.fc_base.specs.declared.request.Request.TheVariants.{Copy, Clean}
 use Rattle.fc_base.specs.declared.size.GrainSize.{GrainSize}
 use Rattle.fc_entry.specs.HistoryState.{HistoryState}
@@ -16,8 +15,7 @@ use Rattle.fc_lane.specs.Lane.{IsFollowing, LaneView, of}
 use Rattle.fc_lane.specs.Workers.{ask_of}
 use Rattle.fc_lane.specs.declared.worker.Worker.TheVariants.{Cleaner, Copier}
 use Rattle.fc_lane.specs.declared.worker.Worker.{Worker}
-use Rattle.fc_legal.specs.Agenda.{Asks}
-use Rattle.fc_legal.specs.Seconds.{Work, filled_by, next_grain}
+use Rattle.fc_legal.specs.Seconds.{Work, filled_by}
 use Rattle.fc_legal.specs.Whole.{Whole}
 use Rattle.fc_marks.specs.Stops.{stop_of_log}
 use Rattle.fc_marks.specs.declared.error.NotedStop.TheVariants.{LogFull, MetaFailed}

@@ -1,8 +1,10 @@
 -- Where a step stopped: the first entries of its line are logged, and with them what is told may be recovered.
-use Rattle.std.proofs.Common.{◌≡◌, ℕ, ◌≤◌, Bool, Option, Some, None, List, [], ◌∷◌, length, false, Err, refl, sym, ap, subst, ◌∙◌, arith}
+use Rattle.std.proofs.Common.{◌≡◌, ℕ, ◌≤◌, Bool, Option, Some, None, List, [], ◌∷◌, length, false, Err, Result, refl, sym, ap, subst, ◌∙◌, arith}
 use Rattle.std.specs.Prelude.{IsErrOf}
 use Rattle.std.proofs.lemmas.List.{append-nil}
 use Rattle.fc_agenda.specs.Goes.{Goes, GoesAsking, stays}
+use Rattle.fc_base.specs.declared.command.Line.{Line}
+use Rattle.fc_base.specs.declared.fault.WordFault.{WordFault}
 use Rattle.fc_base.specs.declared.request.Request.{Request}
 use Rattle.fc_base.specs.declared.size.GrainSize.{GrainSize}
 use Rattle.fc_blocks.specs.Segments.{single}
@@ -21,10 +23,11 @@ use Rattle.fc_meta.specs.States.{disk_of, room_of}
 use Rattle.fc_noted.proofs.Calls.{more_grow}
 use Rattle.fc_noted.proofs.Counting.{has_counted}
 use Rattle.fc_noted.proofs.InHand.{doing_counted}
-use Rattle.fc_noted.proofs.Lines.{AllHalt, Brings, Comes, brings_still}
+use Rattle.fc_noted.proofs.Lines.{Brings, Comes, brings_still}
 use Rattle.fc_noted.proofs.Metering.{calls_grow}
 use Rattle.fc_noted.proofs.Moments.{doing_found, resting_found}
 use Rattle.fc_noted.proofs.Resting.{rests_safe}
+use Rattle.fc_noted.specs.Lines.{LineStops, ScriptStops}
 use Rattle.fc_noted.specs.Making.{CountsInto, KeepsCount, StepMade, done}
 use Rattle.fc_noted.specs.Metered.{GoesInto, Metered, after_actions}
 use Rattle.fc_noted.specs.Noted.{IsAt, IsAtBy, IsNotedAt}
@@ -167,7 +170,7 @@ module _ {C D : Type 0} (seen : D → List ℕ) (may_leave : D → List ℕ → 
 
     pub halted : (stop : NotedStop) → StepMade seen may_leave moment left_since (Err stop) mid new between after →
         (IsErrOf {T = Bool} (Err stop) LogFull → (m : Whole) (least : List Row) → IsAt seen may_leave mid between m least → AsksSome mid.store.control.grain mid.script m) →
-        room_of seen new.meta ≡ room_of seen mid.meta → AllHalt seen may_leave fault_count calls old before stop new after
+        room_of seen new.meta ≡ room_of seen mid.meta → ScriptStops seen may_leave fault_count calls stop old new before after
     halted stop made asks size read w least there =
         let m = comes.came w least there in
         let s = made.stopped m.0 m.1 m.2 in
@@ -198,7 +201,7 @@ module _ {C D : Type 0} (seen : D → List ℕ) (may_leave : D → List ℕ → 
       }
 
   pub halted_on : (old mid : Noted C D) (before between : HistoryState) → Comes seen may_leave old before mid between → KeepsCount seen fault_count calls done old mid →
-      AllHalt seen may_leave fault_count calls old before NoMemory (record mid { live = false }) between
+      ScriptStops seen may_leave fault_count calls NoMemory old (record mid { live = false }) before between
   halted_on old mid before between comes so_far read w least there =
       let m = comes.came w least there in
       let now : Noted C D = record mid { live = false } in
@@ -225,9 +228,8 @@ leaves_resting seen may_leave n history w least a at room =
 -- ---- a line that isn't taken up
 
 pub not_taken_up : {C D : Type 0} (seen : D → List ℕ) (may_leave : D → List ℕ → Type 0) (fault_count calls : D → ℕ) (n same : Noted C D) (history : HistoryState) → same ≡ n → length history.entries ≤ 262144 →
-    (read : Reading) (bytes : List ℕ) (w : Whole) (least : List Row) → IsNotedAt seen may_leave n history w least →
-    LineHalts seen may_leave fault_count calls read NoMemory n (record same { live = false }) bytes w history history
-not_taken_up {C} {D} seen may_leave fault_count calls n same history is room read bytes w least at =
+    (line : Result Line WordFault) → LineStops seen may_leave fault_count calls line NoMemory n (record same { live = false }) history history
+not_taken_up {C} {D} seen may_leave fault_count calls n same history is room line read bytes w least so at =
     subst (λ (x : Noted C D). LineHalts seen may_leave fault_count calls read NoMemory n (record x { live = false }) bytes w history history) (sym is) (
       w,
       Session (single bytes ∷ []),

@@ -16,9 +16,10 @@ mod Finishing
 mod Fitting
 mod GoingAlong
 mod GoodIds
-pub mod Halting
+mod Halting
 mod Holding
 mod Idle
+mod Unready
 mod InHand
 mod KeepingLanes
 mod Lines
@@ -48,6 +49,5 @@ mod CommandLogs
 mod CommandEntry
 mod Metering
 mod MeteringHand
-mod MeteringSteps
 mod Calls
 mod MeteringNoted

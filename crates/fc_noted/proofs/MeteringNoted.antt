@@ -1,5 +1,5 @@
 -- How the count of a noted store goes on, while an entry is under way.
-use Rattle.std.proofs.Common.{◌≡◌, ℕ, ◌+◌, ◌≤◌, Option, Some, None, List, [], ◌∷◌, ◌++◌, refl, sym, ap, subst, ◌∙◌, arith}
+use Rattle.std.proofs.Common.{◌≡◌, ℕ, ◌+◌, ◌≤◌, Option, List, [], ◌∷◌, ◌++◌, refl, sym, ap, subst, ◌∙◌, arith}
 use Rattle.std.specs.Prelude.{Err, IfErr, IsErrOf, Ok, OnErr, OnOk, Result}
 use Rattle.fc_agenda.specs.Goes.{stays}
 use Rattle.fc_base.specs.Count.{HasRisen}
@@ -19,6 +19,7 @@ use Rattle.fc_meta.specs.Answers.{more_calls}
 use Rattle.fc_meta.specs.States.{IsResting, disk_of, room_of, used_of}
 use Rattle.fc_meta.specs.declared.meta.Meta.{Meta}
 use Rattle.fc_noted.proofs.Calls.{more_grow}
+use Rattle.fc_noted.proofs.CallsMade.{memory_wanted, on_ok}
 use Rattle.fc_noted.proofs.Metering.{calls_grow, goes_into, one_done}
 use Rattle.fc_noted.proofs.Stepping.{doing_asked}
 use Rattle.fc_noted.specs.Making.{CountsInto, KeepsCount}
@@ -42,10 +43,6 @@ pub memory_alone : {T : Type 0} (result : Result T NotedStop) → IfErr result (
 memory_alone (Ok a) e told = cc
 memory_alone {T = T} (Err stop) e told = let f : WantsMemory ≡ MetaFailed = sym e ∙ which {T = T} stop MetaFailed told in cc
 
-always_ok : {T : Type 0} (result : Result T NotedStop) (P : Type 0) → P → OnOk result P
-always_ok (Ok a) P p = p
-always_ok (Err e) P p = tt
-
 module _ {C D : Type 0} (seen : D → List ℕ) (fault_count calls : D → ℕ) where
   -- none
   pub no_calls : {T : Type 0} (result : Result T NotedStop) (old new : Noted C D) → new.calls ≡ old.calls → new.meta ≡ old.meta → (IsErrOf result MetaFailed → ⊥) → KeepsCount seen fault_count calls result old new
@@ -55,10 +52,14 @@ module _ {C D : Type 0} (seen : D → List ℕ) (fault_count calls : D → ℕ) 
     count = count;
     called = ap (λ (m : Meta D). calls (disk_of m)) same;
     within = omega arith;
-    whole = always_ok result ((0 ≡ 0) × (fault_count (disk_of new.meta) ≡ fault_count (disk_of old.meta))) (refl, ap (λ (m : Meta D). fault_count (disk_of m)) same);
+    whole = on_ok result ((0 ≡ 0) × (fault_count (disk_of new.meta) ≡ fault_count (disk_of old.meta))) (refl, ap (λ (m : Meta D). fault_count (disk_of m)) same);
     failed = λ told. absurd (other told);
     size = ap (room_of seen) same;
   }
+
+  -- none, where memory was wanted
+  pub none_wanting : {T : Type 0} (result : Result T NotedStop) (given : NotedStop) (old new : Noted C D) → result ≡ Err given → given ≡ WantsMemory → new.calls ≡ old.calls → new.meta ≡ old.meta → KeepsCount seen fault_count calls result old new
+  none_wanting result given old new e is count same = rw (e, is) (no_calls (Err WantsMemory) old new count same memory_wanted)
 
   -- those that were, by a noted store with the same metadata and the same count
   pub same_calls : {T U : Type 0} (result : Result T NotedStop) (other : Result U NotedStop) (old first mid new : Noted C D) → first.calls ≡ old.calls → first.meta ≡ old.meta → new.calls ≡ mid.calls → new.meta ≡ mid.meta →

@@ -12,6 +12,7 @@ use Rattle.fc_legal.specs.Whole.{Whole}
 use Rattle.fc_marks.specs.declared.error.NotedStop.TheVariants.{NoMemory as WantsMemory}
 use Rattle.fc_marks.specs.declared.error.NotedStop.{NotedStop}
 use Rattle.fc_meta.proofs.Moments.{weaker}
+use Rattle.fc_metadisk.specs.Disk.{LeavesOnly}
 use Rattle.fc_noted.proofs.Begun.{at_rest}
 use Rattle.fc_noted.proofs.CallsMade.{counts_still}
 use Rattle.fc_noted.proofs.Counting.{has_counted}
@@ -47,6 +48,15 @@ module _ {C D : Type 0} (seen : D → List ℕ) (may_leave : D → List ℕ → 
     (old : Noted C D) (script : Script) (before : HistoryState) (idle : old.under_way ≡ None) where
   abbrev on_script : Noted C D
   on_script = record old { script = script }
+
+  -- the script alone is another: the disk of metadata is left alone
+  still_on : (room : length before.entries ≤ 262144) (w : Whole) (least : List Row) → IsAt seen may_leave old before w least → LeavesOnly moment left_since old.meta.disk old.meta.disk (LeavesRecoverable old on_script w least)
+  still_on room w least at =
+      let h = at_rest seen may_leave old before w least idle at in
+      let few : w.entries ≤ 262144 = subst (λ (k : ℕ). k ≤ 262144) (sym h.told.1.entries) room in
+      let m = resting_found seen may_leave old before w least h few in
+      still_leaves seen may_leave moment left_since only_now old on_script w least h.keeps.image refl h.keeps.says h.keeps.rests.durable
+      (hold_either old.store old.store old.script old.named w least h.keeps.image refl m m)
 
   -- ---- the script went on
 
@@ -183,12 +193,7 @@ module _ {C D : Type 0} (seen : D → List ℕ) (may_leave : D → List ℕ → 
           on = λ w least at.
               let h = at_rest seen may_leave old before w least idle at in
               (record { same = refl; live = live; grain = refl; at = script_is_at w least at; goes = goes_there w least at }, none w h.told.0);
-          any_moment = λ w least at.
-              let h = at_rest seen may_leave old before w least idle at in
-              let few : w.entries ≤ 262144 = subst (λ (k : ℕ). k ≤ 262144) (sym h.told.1.entries) room in
-              let m = resting_found seen may_leave old before w least h few in
-              still_leaves seen may_leave moment left_since only_now old on_script w least h.keeps.image refl h.keeps.says h.keeps.rests.durable
-              (hold_either old.store old.store old.script old.named w least h.keeps.image refl m m);
+          any_moment = still_on room;
           stopped = tt;
           full = λ f. absurd cc;
           into = λ f. absurd cc;
@@ -199,12 +204,7 @@ module _ {C D : Type 0} (seen : D → List ℕ) (may_leave : D → List ℕ → 
   wanted_next room =
       record {
         on = tt;
-        any_moment = λ w least at.
-            let h = at_rest seen may_leave old before w least idle at in
-            let few : w.entries ≤ 262144 = subst (λ (k : ℕ). k ≤ 262144) (sym h.told.1.entries) room in
-            let m = resting_found seen may_leave old before w least h few in
-            still_leaves seen may_leave moment left_since only_now old on_script w least h.keeps.image refl h.keeps.says h.keeps.rests.durable
-            (hold_either old.store old.store old.script old.named w least h.keeps.image refl m m);
+        any_moment = still_on room;
         stopped = λ w least at.
             let h = at_rest seen may_leave old before w least idle at in
             let few : w.entries ≤ 262144 = subst (λ (k : ℕ). k ≤ 262144) (sym h.told.1.entries) room in (

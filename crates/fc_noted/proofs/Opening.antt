@@ -1,5 +1,5 @@
 -- A noted store as it begins: without volumes, over disks without names.
-use Rattle.std.proofs.Common.{◌≡◌, ℕ, zero, suc, ◌^◌, ◌<◌, ◌≤◌, Bool, true, false, cond, not, None, List, [], ◌∷◌, length, map, filter, get_or, All, Contains, inl, inr, refl, sym, ap, subst, ◌∙◌, arith}
+use Rattle.std.proofs.Common.{◌≡◌, ℕ, zero, suc, ◌^◌, ◌<◌, ◌≤◌, Bool, true, false, cond, not, None, List, [], ◌∷◌, length, map, filter, get_or, replicate, All, Contains, inl, inr, refl, sym, ap, subst, ◌∙◌, arith}
 use Rattle.std.specs.List.{count_by}
 use Rattle.std.proofs.lemmas.List.{get_or-map, length-map}
 use Rattle.std.proofs.lemmas.List.FromFn.{get_or-map-range_with_len, length-map-range_with_len}
@@ -36,11 +36,12 @@ use Rattle.fc_marks.specs.Stops.{stop_of_meta}
 use Rattle.fc_marks.specs.declared.error.NotedStop.TheVariants.{LogFull, MetaFailed}
 use Rattle.fc_mdisk.specs.Disk.{DiskState, IsFresh, is_flat}
 use Rattle.fc_meta.proofs.Moments.{weaker}
+use Rattle.fc_meta.proofs.Opening.{blank}
 use Rattle.fc_meta.specs.Answers.{LeavesEither, more_calls}
 use Rattle.fc_meta.specs.declared.error.MetaError.TheVariants.{Failed, Full, NoMemory}
 use Rattle.fc_meta.specs.declared.error.MetaError.{MetaError}
 use Rattle.fc_meta.specs.States.{IsResting, found, used_of}
-use Rattle.fc_metadisk.specs.Disk.{LeavesOnly}
+use Rattle.fc_metadisk.specs.Disk.{LeavesOnly, Only}
 use Rattle.fc_rules.specs.LaneTold.{LaneOf}
 use Rattle.fc_script.specs.Asking.{Fits}
 use Rattle.fc_script.specs.declared.script.Script.{Script}
@@ -318,6 +319,12 @@ module _ {D : Type 0} (moment : D → ℕ) (left_since : D → ℕ → List ℕ 
       either : (c : List ℕ) → LeavesEither NoImage (Image i) c → LeavesFirst c
       either c (inl none) = inl none
       either c (inr some) = inr (i, some, subst IsSoundImage (sym empty) (first_sound K64), ap kept_in empty)
+
+  -- a disk that isn't called
+  pub leaves_untouched : (seen : D → List ℕ) (may_leave : D → List ℕ → Type 0) → ((disk : D) (c : List ℕ) → left_since disk (moment disk) c → may_leave disk c) → (disk : D) →
+      seen disk ≡ replicate (length (seen disk)) 0 → Only (seen disk) (may_leave disk) → LeavesOnly moment left_since disk disk LeavesFirst
+  leaves_untouched seen may_leave only_now disk zeros synced =
+      leaves_first disk disk (meta_of nothing_kept) refl (blank seen may_leave moment left_since only_now disk (meta_of nothing_kept) zeros synced)
 
 pub not_log : (e : MetaError) → stop_of_meta e ≡ LogFull → ⊥
 not_log Failed is = cc

@@ -1,5 +1,5 @@
 -- A refusal is logged: the history leads on with it, and all stands as it stood.
-use Rattle.std.proofs.Common.{◌≡◌, ℕ, ◌<◌, ◌≤◌, true, None, List, [], ◌∷◌, ◌++◌, length, Result, OnOk, OnErr, IfErr, refl, sym, subst, ◌∙◌, arith}
+use Rattle.std.proofs.Common.{◌≡◌, ℕ, ◌<◌, true, None, List, [], ◌∷◌, ◌++◌, length, Result, OnOk, OnErr, IfErr, refl, sym, subst, ◌∙◌, arith}
 use Rattle.fc_base.specs.declared.fault.Refusal.{Refusal}
 use Rattle.fc_base.specs.declared.request.Place.TheVariants.{Control, Every}
 use Rattle.fc_base.specs.declared.request.Reply.TheVariants.{Refused}

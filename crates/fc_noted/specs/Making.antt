@@ -1,5 +1,5 @@
 -- What a step makes, and what it leaves.
-use Rattle.std.specs.Prelude.{◌+◌, ◌≡◌, ◌⊎◌, ℕ, ◌≤◌, Bool, true, false, List, [], ◌∷◌, ◌++◌, length, Some, None, Result, Ok, Err, IfOk, OnErr, OnOk, IsErrOf}
+use Rattle.std.specs.Prelude.{◌+◌, ◌≡◌, ◌⊎◌, ℕ, ◌<◌, ◌≤◌, Bool, true, false, List, [], ◌∷◌, ◌++◌, length, Some, None, Result, Ok, Err, IfOk, OnErr, OnOk, IsErrOf}
 use Rattle.fc_apart.specs.Effects.{IsJoined}
 use Rattle.fc_base.specs.Count.{HasRisen}
 use Rattle.fc_base.specs.declared.command.Command.{Command}
@@ -202,6 +202,13 @@ module _ {C D : Type 0} (seen : D → List ℕ) (may_leave : D → List ℕ → 
     pub run : HasRun n.store.control.grain history.entries w least point
     pub keeps : Keeps seen may_leave n.store.control.grain n.meta n w None point
     pub counts : Counts seen may_leave n history.entries w
+
+  -- It is noted at something, with room for an entry; and what holds wherever it is.
+  abbrev pub IsNotedWithRoom : Noted C D → Type 0
+  IsNotedWithRoom n = (w : Whole) × (least : List Row) × (history : HistoryState) × IsNotedAt seen may_leave n history w least × (length history.entries < 262144)
+
+  abbrev pub WhereverNoted : Noted C D → (HistoryState → Whole → List Row → Type 0) → Type 0
+  WhereverNoted n Holds = (history : HistoryState) (w : Whole) (least : List Row) → length history.entries < 262144 → IsNotedAt seen may_leave n history w least → Holds history w least
 
   -- A command's entry leads on, once it is logged, to what the noted store then stands for.
   abbrev pub LeadsOn : Noted C D → HistoryState → Entry → Noted C D → Type 0

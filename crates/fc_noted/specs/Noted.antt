@@ -135,6 +135,14 @@ module _ {C D : Type 0} (seen : D → List ℕ) (may_leave : D → List ℕ → 
     pub at : IsAt n history w least
     pub room : length history.entries ≤ 262144
 
+  -- The next entry may begin.
+  pub record CanBegin (n : Noted C D) (history : HistoryState) : Type 0 where
+    pub live : n.live ≡ true
+    pub w : Whole
+    pub least : List Row
+    pub at : IsNotedAt n history w least
+    pub room : length history.entries ≤ 262144
+
   -- A step logged nothing, and what was told is told.
   pub record Stays (w : Whole) (least : List Row) (old_history : HistoryState) (old new : Noted C D) (new_history : HistoryState) : Type 0 where
     pub same : new_history ≡ old_history

@@ -1,8 +1,7 @@
 //! Commands.
 
-ghost use Rattle.std.specs.Prelude.{◌≡◌, ◌+◌, ◌<◌, ◌≤◌, ◌||◌, [], ℕ, List, Some, length, true, is_some, IfOk, IsErrOf, OnErr, OnOk};
+ghost use Rattle.std.specs.Prelude.{◌≡◌, ◌+◌, ◌<◌, ◌||◌, [], ℕ, List, Some, length, true, is_some, IfOk, IsErrOf, OnErr, OnOk};
 ghost use Rattle.fc_books.specs.Deciding.{settle};
-ghost use Rattle.fc_changed.specs.Row.{Row};
 ghost use Rattle.fc_entry.specs.HistoryState.{HistoryState};
 ghost use Rattle.fc_entry.specs.declared.entry.Entry.{Entry as EntryValue};
 ghost use Rattle.fc_format.specs.Halves.{Image};
@@ -17,8 +16,8 @@ ghost use Rattle.fc_marks.specs.Meter.{filled_size};
 ghost use Rattle.fc_meta.specs.Answers.{LeavesEither, more_calls};
 ghost use Rattle.fc_meta.specs.States.{IsResting, disk_of, found, used_of};
 ghost use Rattle.fc_metadisk.specs.Disk.{LeavesOnly};
-ghost use Rattle.fc_noted.specs.Making.{AnewOr, CountsInto, HasActed, IsEntryOf, IsImageAfter, KeepLanes, KeepsCount, LeadsOn, LeavesAnew, MayHaveActed, StepMade, always};
-ghost use Rattle.fc_noted.specs.Noted.{IsNotedAt};
+ghost use Rattle.fc_noted.specs.Making.{AnewOr, CountsInto, HasActed, IsEntryOf, IsImageAfter, IsNotedWithRoom, KeepLanes, KeepsCount, LeadsOn, LeavesAnew, MayHaveActed, StepMade, WhereverNoted, always};
+ghost use Rattle.fc_noted.specs.Noted.{CanBegin};
 ghost use Rattle.law_noted.specs.Records.{removed_by};
 ghost use Rattle.fc_noted.specs.Stopping.{HasStopped, LeavesRecoverable};
 ghost use Rattle.fc_script.specs.Asking.{CanBeAsked, IsNext};
@@ -81,9 +80,7 @@ impl<D: Mdisk, M: MetaDisk> Noted<D, M> {
         command: Command,
         history: &mut History,
     ) -> Result<(), NotedStop>
-        requires at { (w : Whole) × (least : List Row) × IsNotedAt M.seen M.may_leave self.old history.old w least }
-        requires live { self.old.live ≡ true }
-        requires room { length history.old.entries ≤ 262144 }
+        requires begins { CanBegin M.seen M.may_leave self.old history.old }
         requires next { (w : Whole) → StandsFor self.old.store w → IsNext self.old.store.control.grain w (Some (Asked.Command command)) (agenda_of self.old.store.control.grain self.old.script) }
         requires can { CanBeAsked self.old.store (Asked.Command command) }
         ensures made { StepMade M.seen M.may_leave M.moment M.left_since (always result) self.old self.new history.old history.new }
@@ -179,22 +176,18 @@ impl<D: Mdisk, M: MetaDisk> Noted<D, M> {
     /// The entry of a command that is done: it leads on to what the noted store then stands for, once it is logged. Until then, and
     /// behind an error, a stop leaves what may be recovered with the command as one that is asked.
     fn command_entry(&mut self, command: Command) -> Result<Entry, NotedStop>
-        requires at { (w : Whole) × (least : List Row) × (history : HistoryState) ×
-            IsNotedAt M.seen M.may_leave self.old history w least × (length history.entries < 262144) }
+        requires at { IsNotedWithRoom M.seen M.may_leave self.old }
         requires next { (w : Whole) → StandsFor self.old.store w →
             IsNext self.old.store.control.grain w (Some (Asked.Command command)) (agenda_of self.old.store.control.grain self.old.script) }
         requires decided { IsDecided command }
         ensures leads { IfOk result (λ entry.
             (history : HistoryState) → length history.entries < 262144 → LeadsOn M.seen M.may_leave self.old history entry self.new) }
         ensures asked { IfOk result (λ entry. IsAsked 0 0 (Request.Command command) entry) }
-        ensures any_moment { (history : HistoryState) (w : Whole) (least : List Row) →
-            length history.entries < 262144 → IsNotedAt M.seen M.may_leave self.old history w least →
-            LeavesOnly M.moment M.left_since (disk_of self.old.meta) (disk_of self.new.meta) (LeavesRecoverable self.old self.new w least) }
-        ensures stopped { (history : HistoryState) (w : Whole) (least : List Row) →
-            length history.entries < 262144 → IsNotedAt M.seen M.may_leave self.old history w least →
-            HasStopped M.may_leave self.old self.new w least }
-        ensures into { IsErrOf result NotedStop.MetaFailed → (history : HistoryState) (w : Whole) (least : List Row) →
-            length history.entries < 262144 → IsNotedAt M.seen M.may_leave self.old history w least → CountsInto M.seen self.old self.new history w }
+        ensures any_moment { WhereverNoted M.seen M.may_leave self.old (λ history w least.
+            LeavesOnly M.moment M.left_since (disk_of self.old.meta) (disk_of self.new.meta) (LeavesRecoverable self.old self.new w least)) }
+        ensures stopped { WhereverNoted M.seen M.may_leave self.old (λ history w least. HasStopped M.may_leave self.old self.new w least) }
+        ensures into { IsErrOf result NotedStop.MetaFailed →
+            WhereverNoted M.seen M.may_leave self.old (λ history w least. CountsInto M.seen self.old self.new history w) }
         ensures not_log { IsErrOf result NotedStop.LogFull → ⊥ }
         ensures grain { OnOk result (self.new.store.control.grain ≡ self.old.store.control.grain) }
         ensures lanes { EachLane IsSameLane self.old.store.lanes self.new.store.lanes }
@@ -210,21 +203,17 @@ impl<D: Mdisk, M: MetaDisk> Noted<D, M> {
 
     /// Settles all, decides a command and does it: what was decided, and the effects of both decisions where the settling had any.
     fn carry_out(&mut self, command: &Command) -> Result<(Decision, List<Effect>), NotedStop>
-        requires at { (w : Whole) × (least : List Row) × (history : HistoryState) ×
-            IsNotedAt M.seen M.may_leave self.old history w least × (length history.entries < 262144) }
+        requires at { IsNotedWithRoom M.seen M.may_leave self.old }
         requires next { (w : Whole) → StandsFor self.old.store w →
             IsNext self.old.store.control.grain w (Some (Asked.Command command.now)) (agenda_of self.old.store.control.grain self.old.script) }
         requires decided { IsDecided command.now }
         ensures leads { IfOk result (λ done. (entry : EntryValue) → IsEntryOf command.now done.0 done.1 entry →
             (history : HistoryState) → length history.entries < 262144 → LeadsOn M.seen M.may_leave self.old history entry self.new) }
-        ensures any_moment { (history : HistoryState) (w : Whole) (least : List Row) →
-            length history.entries < 262144 → IsNotedAt M.seen M.may_leave self.old history w least →
-            LeavesOnly M.moment M.left_since (disk_of self.old.meta) (disk_of self.new.meta) (LeavesRecoverable self.old self.new w least) }
-        ensures stopped { (history : HistoryState) (w : Whole) (least : List Row) →
-            length history.entries < 262144 → IsNotedAt M.seen M.may_leave self.old history w least →
-            HasStopped M.may_leave self.old self.new w least }
-        ensures into { IsErrOf result NotedStop.MetaFailed → (history : HistoryState) (w : Whole) (least : List Row) →
-            length history.entries < 262144 → IsNotedAt M.seen M.may_leave self.old history w least → CountsInto M.seen self.old self.new history w }
+        ensures any_moment { WhereverNoted M.seen M.may_leave self.old (λ history w least.
+            LeavesOnly M.moment M.left_since (disk_of self.old.meta) (disk_of self.new.meta) (LeavesRecoverable self.old self.new w least)) }
+        ensures stopped { WhereverNoted M.seen M.may_leave self.old (λ history w least. HasStopped M.may_leave self.old self.new w least) }
+        ensures into { IsErrOf result NotedStop.MetaFailed →
+            WhereverNoted M.seen M.may_leave self.old (λ history w least. CountsInto M.seen self.old self.new history w) }
         ensures not_log { IsErrOf result NotedStop.LogFull → ⊥ }
         ensures grain { OnOk result (self.new.store.control.grain ≡ self.old.store.control.grain) }
         ensures lanes { EachLane IsSameLane self.old.store.lanes self.new.store.lanes }

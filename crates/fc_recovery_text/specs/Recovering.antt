@@ -14,7 +14,7 @@ use Rattle.fc_kept.specs.Recoverable.{disks_at}
 use Rattle.fc_mdisk.specs.Disk.{DiskState}
 use Rattle.fc_mdisk.specs.Disks.{calls_of, faults_of}
 use Rattle.fc_recovered.specs.Answering.{AfterReply, IsAnswerBy}
-use Rattle.fc_recovered.specs.Recovered.{AreReadied}
+use Rattle.fc_recovered.specs.Recovered.{AreHandedBack, AreReadied}
 use Rattle.fc_recovered.specs.Showing.{shown_at}
 use Rattle.fc_recovery_text.specs.Text.{lines_text, no_image, read_text, rows_in}
 
@@ -44,11 +44,11 @@ pub record IsImageText (grain : GrainSize) (image : MetaImage) (disks : List (Li
   pub read : AreRead grain image image.volumes ready reads last
   pub text_is : text ≡ lines_text (rows_in grain image) ++ reads
 
--- What was put of it, where the sink failed or memory was wanted, and the disks behind it: nothing; the rows; or the rows, and what some
--- first volumes read.
+-- What was put of it, where the sink failed or memory was wanted, and the disks behind it: nothing; the rows, where what the volumes lack
+-- may have been made ready; or the rows, and what some first volumes read.
 pub data IsImageFront (grain : GrainSize) (image : MetaImage) (disks : List (List NamedDisk)) : List ℕ → List (List NamedDisk) → Type 0 where
   nothing : IsImageFront grain image disks [] disks
-  rows : IsImageFront grain image disks (lines_text (rows_in grain image)) disks
+  rows : (last : List (List NamedDisk)) → AreHandedBack grain image.volumes disks last → IsImageFront grain image disks (lines_text (rows_in grain image)) last
   reads : (ready last : List (List NamedDisk)) (count : ℕ) (reads : List ℕ) → AreReadied grain image.volumes disks ready →
       AreRead grain image (take count image.volumes) ready reads last → IsImageFront grain image disks (lines_text (rows_in grain image) ++ reads) last
 

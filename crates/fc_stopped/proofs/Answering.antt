@@ -1,5 +1,5 @@
 -- One line more: the noted store goes on to answer lines, or leaves what is told of the first entries; and the history only grows.
-use Rattle.std.proofs.Common.{◌≡◌, ℕ, ◌≤◌, List, [], ◌∷◌, ◌++◌, length, map, sym, ◌∙◌, subst, Option, Some, None, Result, Ok, Err, OnOk, IfErr, true}
+use Rattle.std.proofs.Common.{◌≡◌, ℕ, ◌≤◌, List, [], ◌∷◌, ◌++◌, length, map, sym, ◌∙◌, subst, Option, Some, None, Result, Ok, Err, OnOk, IfErr}
 use Rattle.std.proofs.lemmas.List.{map-append}
 use Rattle.fc_agenda.proofs.Going.{Goes-append, GoesSome-asking, GoesSome-whole}
 use Rattle.fc_agenda.specs.Goes.{Goes, GoesAsking, GoesSome, GoesToEnd}
@@ -15,12 +15,13 @@ use Rattle.fc_entry.specs.declared.entry.Entry.{Entry}
 use Rattle.fc_legal.proofs.Appending.{Goes-more_segments, IsLegal-run, IsRun-append, WantsMore-append, with_segments}
 use Rattle.fc_legal.proofs.Naming.{HasMore}
 use Rattle.fc_legal.specs.Added.{Adds, IsOf}
-use Rattle.fc_legal.specs.Agenda.{Agenda, Reading, Session, session_rules}
+use Rattle.fc_legal.specs.Agenda.{Agenda, Session, session_rules}
 use Rattle.fc_legal.specs.Run.{IsRun, WantsMore}
 use Rattle.fc_legal.specs.Whole.{Whole}
 use Rattle.fc_marks.specs.Meter.{Meter}
 use Rattle.fc_marks.specs.declared.error.NotedStop.{NotedStop}
 use Rattle.fc_marks.specs.declared.error.NotedStop.TheVariants.{LogFull, MetaFailed, MetaFull, NoMemory}
+use Rattle.fc_noted.specs.Lines.{LineEnds, LineStops, Ran}
 use Rattle.fc_noted.specs.Making.{KeepLanes, KeepsCount}
 use Rattle.fc_noted.specs.Noted.{IsNotedAt}
 use Rattle.fc_noted.specs.Stopping.{LeftAt, Leaves, LineHalts, Paid}
@@ -63,15 +64,10 @@ in_part grain line told next left old new adds = record { more = adds.more; entr
 module _ {C D : Type 0} (seen : D → List ℕ) (may_leave : D → List ℕ → Type 0) (fault_count calls : D → ℕ) where
   -- A line that was read is answered, or its fault is.
   pub line_is_answered : (read : Result Line WordFault) (result : Result (Unit {0}) NotedStop) (n now : Noted C D) (before after : HistoryState) →
-      OnOk result ((by : Reading) (bytes : List ℕ) (w : Whole) (least : List Row) → by w.books bytes ≡ read → IsNotedAt seen may_leave n before w least →
-      (next : Whole) × (least_next : List Row) × IsNotedAt seen may_leave now after next least_next
-      × Adds before after (λ more. GoesToEnd (session_rules n.store.control.grain by) (Session (single bytes ∷ [])) w more next)) →
-      IfErr result (λ stop. (by : Reading) (bytes : List ℕ) (w : Whole) (least : List Row) → by w.books bytes ≡ read → IsNotedAt seen may_leave n before w least →
-      LineHalts seen may_leave fault_count calls by stop n now bytes w before after) →
-      OnOk result (now.store.control.grain ≡ n.store.control.grain) → OnOk result (now.live ≡ true) →
+      OnOk result (LineEnds seen may_leave read n now before after) → IfErr result (λ stop. LineStops seen may_leave fault_count calls read stop n now before after) → Ran seen fault_count calls result n now after →
       (bytes : List ℕ) (w : Whole) (least : List Row) → stop_reading w.books bytes ≡ read → IsNotedAt seen may_leave n before w least → LineIsAnswered seen may_leave fault_count calls result n now bytes w before after
-  line_is_answered read (Ok done) n now before after answered halted grain live bytes w least is at = (live, grain, answered stop_reading bytes w least is at)
-  line_is_answered read (Err stop) n now before after answered halted grain live bytes w least is at = halted stop_reading bytes w least is at
+  line_is_answered read (Ok none) n now before after answered halted ran bytes w least is at = (ran.live, ran.grain, answered stop_reading bytes w least is at)
+  line_is_answered read (Err stop) n now before after answered halted ran bytes w least is at = halted stop_reading bytes w least is at
 
   -- ---- one line behind others
 
@@ -172,7 +168,7 @@ module _ {C D : Type 0} (seen : D → List ℕ) (may_leave : D → List ℕ → 
 
   -- ---- the history only grows, and each entry's actor has a name
 
-  pub some_added : (result : Result (Unit {0}) NotedStop) (n now : Noted C D) (line : List ℕ) (w : Whole) (old new : HistoryState) → LineIsAnswered seen may_leave fault_count calls result n now line w old new →
+  some_added : (result : Result (Unit {0}) NotedStop) (n now : Noted C D) (line : List ℕ) (w : Whole) (old new : HistoryState) → LineIsAnswered seen may_leave fault_count calls result n now line w old new →
       AddsSome n.store.control.grain stop_reading (Session (single line ∷ [])) w old new
   some_added (Ok done) n now line w old new r =
       record {
@@ -198,14 +194,24 @@ module _ {C D : Type 0} (seen : D → List ℕ) (may_leave : D → List ℕ → 
   some_added (Err MetaFailed) n now line w old new h = record { last = h.0; told = h.2; adds = in_part n.store.control.grain line w h.0 h.1 old new h.5 }
   some_added (Err MetaFull) n now line w old new h = record { last = h.0; told = h.2; adds = in_part n.store.control.grain line w h.0 h.1 old new h.5 }
 
-  pub line_grows : (s : StopStart) (n : Noted C D) (stop : Option NotedStop) (lines : List (List ℕ)) (line : List ℕ) (old new : HistoryState) (a : HasAnswered seen may_leave fault_count calls n stop s lines old) →
+  line_grows : (s : StopStart) (n : Noted C D) (stop : Option NotedStop) (lines : List (List ℕ)) (line : List ℕ) (old new : HistoryState) (a : HasAnswered seen may_leave fault_count calls n stop s lines old) →
       AddsSome n.store.control.grain stop_reading (Session (single line ∷ [])) a.last old new → GrowsTo old new
   line_grows s n stop lines line old new a some = history_grows n.store.control.grain stop_reading (Session (single line ∷ [])) a.last old new tt a.at.told.1 some
 
-  pub line_named : (s : StopStart) (n : Noted C D) (stop : Option NotedStop) (lines : List (List ℕ)) (line : List ℕ) (old new : HistoryState) (a : HasAnswered seen may_leave fault_count calls n stop s lines old) →
+  line_named : (s : StopStart) (n : Noted C D) (stop : Option NotedStop) (lines : List (List ℕ)) (line : List ℕ) (old new : HistoryState) (a : HasAnswered seen may_leave fault_count calls n stop s lines old) →
       AddsSome n.store.control.grain stop_reading (Session (single line ∷ [])) a.last old new → HasNames old → HasNames new
   line_named s n stop lines line old new a some =
       let w : Whole = first_told s.start.disks in
       let named : HasMore w.actors a.last.actors =
       legal_names s.start.grain w a.last old.entries (IsLegal-run s.start.grain stop_reading w a.last (map single lines) old.entries a.run) in
       names_stay n.store.control.grain stop_reading (Session (single line ∷ [])) a.last named.more old new tt a.at.told.1 (sym a.at.told.1.actors ∙ named.is) some
+
+-- Both, of a line that is answered or in part.
+pub line_adds : {C D : Type 0} {seen : D → List ℕ} {may_leave : D → List ℕ → Type 0} {fault_count calls : D → ℕ} {s : StopStart} {n : Noted C D} {stop : Option NotedStop} {lines : List (List ℕ)} {old : HistoryState} →
+    (a : HasAnswered seen may_leave fault_count calls n stop s lines old) (result : Result (Unit {0}) NotedStop) (now : Noted C D) (line : List ℕ) (new : HistoryState) →
+    LineIsAnswered seen may_leave fault_count calls result n now line a.last old new → (HasNames old → HasNames new) × GrowsTo old new
+line_adds {seen = seen} {may_leave = may_leave} {fault_count = fault_count} {calls = calls} {s = s} {n = n} {stop = stop} {lines = lines} {old = old} a result now line new answered =
+    let some = some_added seen may_leave fault_count calls result n now line a.last old new answered in (
+      line_named seen may_leave fault_count calls s n stop lines line old new a some,
+      line_grows seen may_leave fault_count calls s n stop lines line old new a some,
+    )

@@ -1,5 +1,5 @@
 -- A disk that stops, counted towards its stop; and how often a disk was called.
-use Rattle.std.proofs.Common.{◌≡◌, ℕ, zero, suc, ◌+◌, ◌-◌, ◌^◌, ◌<◌, ◌≤◌, leb, inl, inr, refl, sym, ap, ◌∙◌, arith, if◌then◌else◌}
+use Rattle.std.proofs.Common.{◌≡◌, ℕ, zero, suc, ◌+◌, ◌-◌, ◌^◌, ◌<◌, ◌≤◌, leb, inl, inr, refl, ap, ◌∙◌, arith, if◌then◌else◌}
 use Rattle.std.specs.Prelude.{max, min}
 use Rattle.std.proofs.lemmas.Bool.{cases_lt, le-leb, lt-leb}
 use Rattle.fc_base.specs.Count.{HasRisen, one_more}
@@ -20,7 +20,7 @@ towards_before stop calls lt = rw (lt-leb stop calls lt) refl
 
 -- Before the first call.
 pub counted_first : (d : StopState) → d.calls ≡ 0 → 0 < d.stop → calls_by_stop d ≡ 2 ^ 64 - 1 - d.stop
-counted_first d none some = towards_before d.stop d.calls (omega (arith, none, some)) ∙ ap (λ (n : ℕ). 2 ^ 64 - 1 - (d.stop - n)) none
+counted_first d none some = towards_before d.stop d.calls (omega (arith, none, some)) ∙ omega (arith, none)
 
 pub quiet_first : (d : StopState) → d.calls ≡ 0 → 0 < d.stop → faults_by_stop d ≡ 0
 quiet_first d none some = rw (lt-leb d.stop d.calls (omega (arith, none, some))) refl

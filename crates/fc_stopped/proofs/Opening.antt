@@ -1,5 +1,5 @@
 -- A call before its first line: the noted store that it opens, or the first image that isn't written.
-use Rattle.std.proofs.Common.{◌≡◌, ℕ, ◌-◌, ◌<◌, ◌≤◌, ◌^◌, true, List, [], ◌++◌, All, inl, inr, length, replicate, refl, sym, ap, subst, ◌∙◌, arith, None}
+use Rattle.std.proofs.Common.{◌≡◌, ℕ, ◌-◌, ◌<◌, ◌≤◌, ◌^◌, true, List, [], ◌++◌, All, Global, Vec, inl, inr, length, map, replicate, refl, sym, ap, subst, ◌∙◌, arith, None, vec_len}
 use Rattle.std.proofs.lemmas.List.{length-map, length-replicate}
 use Rattle.std.proofs.lemmas.List.FromFn.{length-map-range_with_len}
 use Rattle.fc_base.specs.Count.{HasRisen}
@@ -9,7 +9,7 @@ use Rattle.fc_base.specs.declared.size.GrainSize.TheVariants.{K64}
 use Rattle.fc_call.specs.Call.{Call}
 use Rattle.fc_entry.specs.HistoryState.{HistoryState}
 use Rattle.fc_entry.specs.Text.{history_text}
-use Rattle.fc_format.specs.Halves.{recovered}
+use Rattle.fc_format.specs.Halves.{half_size, recovered}
 use Rattle.fc_grains.specs.Grains.{pool_of}
 use Rattle.fc_lane.specs.Lane.{LaneView}
 use Rattle.fc_lanes.specs.Dealing.{AreAllIn, AreByLane, Begin, all_dealt, dealt, pools_dealt}
@@ -31,13 +31,13 @@ use Rattle.fc_noted.specs.Stopping.{AreCounted, LeavesFirst}
 use Rattle.fc_noted.specs.declared.noted.Noted.{Noted}
 use Rattle.fc_owner.proofs.SessionOver.{gave_nothing}
 use Rattle.fc_owner.specs.FirstTold.{first_told}
-use Rattle.fc_recovery_text.specs.Recovering.{IsFirstText}
+use Rattle.fc_recovery_text.specs.Recovering.{IsFirstFront, IsFirstText}
 use Rattle.fc_stands.specs.Store.{StandsFor, StoreView}
 use Rattle.fc_stopped.proofs.Apart.{LieApart, lie_apart}
 use Rattle.fc_stopped.proofs.Counted.{all_back, given_back}
 use Rattle.fc_stopped.proofs.Counting.{counted_first, faulted_at, more_are, quiet_before, quiet_first, risen_some}
 use Rattle.fc_stopped.proofs.Ends.{far_ends}
-use Rattle.fc_stopped.proofs.Found.{first_state}
+use Rattle.fc_stopped.proofs.Found.{first_put, first_state}
 use Rattle.fc_stopped.proofs.Lanes.{lanes_begin}
 use Rattle.fc_stopped.proofs.Putting.{put_as}
 use Rattle.fc_stopped.proofs.Sessions.{CameFar}
@@ -46,7 +46,7 @@ use Rattle.fc_stopped.specs.Countdown.{calls_by_stop, faults_by_stop}
 use Rattle.fc_stopped.specs.Ending.{EndsUnopened, IsOpened, StatePut, goes_by, over_disks}
 use Rattle.fc_stopped.specs.Lines.{HasAnswered, HasCounted, HasLanes}
 use Rattle.fc_stopped.specs.Reading.{stop_reading}
-use Rattle.fc_stopped.specs.Stopped.{IsState, StopEnds}
+use Rattle.fc_stopped.specs.Stopped.{IsLeftFront, IsState, StopEnds}
 use Rattle.fc_stopped.specs.Text.{far_text}
 use Rattle.fc_stopped.specs.declared.far.Far.{Far}
 use Rattle.fc_stopped.specs.declared.far.Far.TheVariants.{ToCall, ToFull}
@@ -54,7 +54,7 @@ use Rattle.fc_stopped.specs.declared.far.Far.TheVariants.{ToCall, ToFull}
 -- ---- the store
 
 -- It was made over the disks that were taken.
-pub begins_over : (count : ℕ) (disks taken : List DiskState) (s : StoreView) → taken ≡ disks → length disks ≡ count → count < 2 ^ 30 → All IsFresh disks → StandsFor s (first_told taken) → s.control.grain ≡ K64 →
+begins_over : (count : ℕ) (disks taken : List DiskState) (s : StoreView) → taken ≡ disks → length disks ≡ count → count < 2 ^ 30 → All IsFresh disks → StandsFor s (first_told taken) → s.control.grain ≡ K64 →
     Begin K64 LANES (all_dealt LANES taken) s.lanes → BeginsOver count disks s
 begins_over count disks taken s same counted few fresh stands grain begin =
     record {
@@ -66,6 +66,14 @@ begins_over count disks taken s same counted few fresh stands grain begin =
           (subst (λ (ds : List DiskState). Begin K64 LANES (all_dealt LANES ds) s.lanes) same begin);
     }
 
+-- The same by the vectors: so many were there, all of them fresh.
+pub taken_over : {A : Type 0} (m : A → DiskState) {disks taken : Vec A Global} {count : ℕ} {s : StoreView} → taken ≡ disks → count ≡ vec_len disks → vec_len disks < 2 ^ 30 → All IsFresh (map m disks.items) →
+    StandsFor s (first_told (map m taken.items)) → s.control.grain ≡ K64 → Begin K64 LANES (all_dealt LANES (map m taken.items)) s.lanes → BeginsOver count (map m disks.items) s
+taken_over {A = A} m {disks = disks} {taken = taken} {count = count} {s = s} same counted few fresh stands grain begin =
+    let all : map m taken.items ≡ map m disks.items = ap (λ (v : Vec A Global). map m v.items) same in
+    let many : length (map m disks.items) ≡ count = omega (arith, length-map disks.items m, counted, disks.ok.0) in
+    begins_over count (map m disks.items) (map m taken.items) s all many (omega (arith, few, counted)) fresh stands grain begin
+
 pub begin_lanes : (count : ℕ) (disks : List DiskState) (s : StoreView) → s.control.grain ≡ K64 → BeginsOver count disks s → HasLanes (over_disks disks) s.lanes
 begin_lanes count disks s grain begins =
     subst (λ (g : GrainSize). HasLanes (record { grain = g; disks = disks }) s.lanes) grain (lanes_begin disks s begins.stands begins.begin)
@@ -73,7 +81,7 @@ begin_lanes count disks s grain begins =
 pub begin_counted : (count : ℕ) (disks : List DiskState) (s : StoreView) → BeginsOver count disks s → AreCounted (first_told disks) s.lanes
 begin_counted count disks s begins = has_counted s (first_told disks) begins.stands (omega arith)
 
-pub is_opened : {C : Type 0} (count number : ℕ) (disks : List DiskState) (s : StoreView) (n : Noted C StopState) → s.control.grain ≡ K64 → BeginsOver count disks s → n.store ≡ s → n.live ≡ true →
+is_opened : {C : Type 0} (count number : ℕ) (disks : List DiskState) (s : StoreView) (n : Noted C StopState) → s.control.grain ≡ K64 → BeginsOver count disks s → n.store ≡ s → n.live ≡ true →
     IsNotedAt (λ (d : StopState). d.bytes) StopLeaves n NoHistory (first_told disks) [] →
     HasCounted (λ (d : StopState). d.bytes) StopLeaves faults_by_stop calls_by_stop n (goes_by number (room_of (λ (d : StopState). d.bytes) n.meta) disks) → IsOpened n disks number
 is_opened count number disks s n grain begins same live at counted =
@@ -88,7 +96,7 @@ is_opened count number disks s n grain begins same live at counted =
 -- ---- the calls of its disk of metadata
 
 -- Opening made four, and none of them failed.
-pub opened_counted : {C : Type 0} (size number : ℕ) (disks : List DiskState) (d : StopState) (n : Noted C StopState) → d ≡ new_stop size number → 0 < number → number < 2 ^ 32 → n.calls ≡ 4 →
+opened_counted : {C : Type 0} (size number : ℕ) (disks : List DiskState) (d : StopState) (n : Noted C StopState) → d ≡ new_stop size number → 0 < number → number < 2 ^ 32 → n.calls ≡ 4 →
     calls_by_stop (disk_of n.meta) ≡ more_calls 4 (calls_by_stop d) → faults_by_stop (disk_of n.meta) ≡ faults_by_stop d →
     HasCounted (λ (d : StopState). d.bytes) StopLeaves faults_by_stop calls_by_stop n (goes_by number (room_of (λ (d : StopState). d.bytes) n.meta) disks)
 opened_counted size number disks d n is some few count called quiet =
@@ -104,6 +112,13 @@ opened_counted size number disks d n is some few count called quiet =
       before = quiet_before;
       at = faulted_at;
     }
+
+pub over_opened : {C : Type 0} (size : ℕ) {number count : ℕ} {disks : List DiskState} {s : StoreView} {n : Noted C StopState} (d : StopState) → s.control.grain ≡ K64 → BeginsOver count disks s → n.store ≡ s → n.live ≡ true →
+    IsNotedAt (λ (d : StopState). d.bytes) StopLeaves n NoHistory (first_told disks) [] → d ≡ new_stop size number → 0 < number → number < 2 ^ 32 →
+    (n.calls ≡ 4) × (calls_by_stop (disk_of n.meta) ≡ more_calls 4 (calls_by_stop d)) × (faults_by_stop (disk_of n.meta) ≡ faults_by_stop d) × (room_of (λ (d : StopState). d.bytes) n.meta ≡ half_size d.bytes) →
+    IsOpened n disks number
+over_opened size {number = number} {count = count} {disks = disks} {s = s} {n = n} d grain begins same live at is some few made =
+    is_opened count number disks s n grain begins same live at (opened_counted size number disks d n is some few made.0 made.1 made.2)
 
 -- It failed within those four.
 pub first_failed : (size number : ℕ) (d e : StopState) → d ≡ new_stop size number → 0 < number → number < 2 ^ 32 → IsCalledUpTo 4 (calls_by_stop d) (calls_by_stop e) → HasRisen (faults_by_stop d) (faults_by_stop e) → number ≤ 4
@@ -152,16 +167,18 @@ module _ (number half : ℕ) (call : Call) (bytes : List ℕ) (lanes : List Lane
   none : call.history.entries ≡ []
   none = ap (λ (h : HistoryState). h.entries) main
 
-  unopened_put : (far : Far) → CameFar number half far call [] (Session []) (first_told call.disks) → StatePut (far_text far) (IsFirstText K64 (recovered bytes)) call.status call.sink call.sink' → StopEnds number half call
+  unopened_put : (far : Far) → CameFar number half far call [] (Session []) (first_told call.disks) →
+      StatePut (far_text far) (IsFirstText K64 (recovered bytes)) (IsFirstFront K64 (recovered bytes)) call.status call.sink call.sink' → StopEnds number half call
   unopened_put far came put =
       let w = first_told call.disks in
       let apart : LieApart lanes call.disks' = lie_apart lanes call.disks' by in
       let many : length apart.back ≡ length (pools_dealt LANES call.disks) =
       apart.count ∙ has.count ∙ sym (length-map (all_dealt LANES call.disks) pool_of ∙ length-map-range_with_len (dealt LANES call.disks) 0 LANES) in
       let known : far_text far ≡ history_text call.history ++ far_text far = ap (λ (h : HistoryState). history_text h ++ far_text far) (sym main) in
-      let state : StatePut (far_text far) (IsState call w (Session [])) call.status call.sink call.sink' =
-      put_as (far_text far) (IsFirstText K64 (recovered bytes)) (IsState call (first_told call.disks) (Session [])) call.status call.sink call.sink'
-      (λ text is. first_state call (Session []) bytes text apart.back many (sym apart.are) none leaves is) put in
+      let state : StatePut (far_text far) (IsState call w (Session [])) (IsLeftFront call w (Session [])) call.status call.sink call.sink' =
+      put_as (far_text far) (IsFirstText K64 (recovered bytes)) (IsFirstFront K64 (recovered bytes)) (IsState call w (Session [])) (IsLeftFront call w (Session [])) call.status call.sink call.sink'
+      (λ text is. first_state call (Session []) bytes text apart.back many (sym apart.are) none leaves is)
+      (λ text is. first_put call (Session []) bytes text apart.back many (sym apart.are) none leaves is) put in
       record {
         last = w;
         legal = no_entries call none;
@@ -169,7 +186,7 @@ module _ (number half : ℕ) (call : Call) (bytes : List ℕ) (lanes : List Lane
         bytes = [];
         gave = gave_nothing call.source call.source' source;
         ends = far_ends number half far call [] (Session []) w came record { few = omega arith; taken = none_answered call none } call.status
-            (subst (λ (t : List ℕ). StatePut t (IsState call (first_told call.disks) (Session [])) call.status call.sink call.sink') known state);
+            (subst (λ (t : List ℕ). StatePut t (IsState call (first_told call.disks) (Session [])) (IsLeftFront call (first_told call.disks) (Session [])) call.status call.sink call.sink') known state);
         disks = all_back call.status call.disks call.disks' w (given_back (over_disks call.disks) lanes call.disks' w has all apart counted);
       }
 

@@ -1,5 +1,5 @@
 -- A session that was run over a noted store: what came of its lines, by the way that it ended.
-use Rattle.std.proofs.Common.{◌≡◌, ◌⊎◌, ℕ, ◌+◌, ◌≤◌, List, [], ◌∷◌, ◌++◌, inl, inr, length, length-append, map, refl, sym, ap, subst, arith, Option, Some, None, Ok}
+use Rattle.std.proofs.Common.{◌≡◌, ◌⊎◌, ℕ, ◌+◌, ◌≤◌, List, [], ◌∷◌, ◌++◌, inl, inr, length, length-append, map, refl, sym, ap, subst, ◌∙◌, arith, Option, Some, None, Ok}
 use Rattle.std.proofs.lemmas.List.{append-nil}
 use Rattle.fc_agenda.proofs.Going.{GoesSome-asking, GoesSome-whole}
 use Rattle.fc_base.specs.Count.{HasRisen}

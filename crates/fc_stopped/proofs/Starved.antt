@@ -23,7 +23,7 @@ use Rattle.fc_stopped.proofs.Putting.{adds_none}
 use Rattle.fc_stopped.proofs.Sessions.{some_taken}
 use Rattle.fc_stopped.specs.Ending.{over_disks}
 use Rattle.fc_stopped.specs.Reading.{stop_reading}
-use Rattle.fc_stopped.specs.Stopped.{AnswersSome, AnswersUpTo, ComeBack, EndsBy, StopEnds}
+use Rattle.fc_stopped.specs.Stopped.{AnswersSome, AnswersUpTo, ComeBack, EndsBy, StandsBehind, StopEnds}
 
 -- Of no lines there is no entry, and nothing is left to be asked.
 pub no_lines : (call : Call) → call.history.entries ≡ [] → OfFirstTaken call.source' [] (AnswersUpTo call (first_told call.disks) (Asking []))
@@ -56,7 +56,7 @@ starved_by number half call is source sink none named =
     let w : Whole = first_told call.disks in
     let front : AddsFront call.sink.held (history_text call.history ++ []) call.sink'.held =
     subst (λ (k : SinkState). AddsFront call.sink.held (history_text call.history ++ []) k.held) (sym sink) (adds_none call.sink.held (history_text call.history ++ [])) in
-    let ends : EndsBy number half status.NoMemory call w [] = (omega arith, none_answered call none, ([], front)) in
+    let ends : EndsBy number half status.NoMemory call w [] = (omega arith, none_answered call none, ([], StandsBehind.nothing, front)) in
     let back : ComeBack status.NoMemory call.disks call.disks' w = tt in
     record {
       last = w;

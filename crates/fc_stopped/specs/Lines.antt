@@ -60,6 +60,10 @@ pub record StopStart : Type 0 where
   pub number : ℕ
   pub half : ℕ
 
+-- The first of these lines are answered, and the stop came so far.
+abbrev pub LeftBy : Option NotedStop → StopStart → List (List ℕ) → HistoryState → Agenda → Whole → Type 0
+LeftBy stop s lines history left last = RunsUpTo s.start lines history left last × CallsLeft s.number s.half stop history.entries last left
+
 module _ {C D : Type 0} (seen : D → List ℕ) (may_leave : D → List ℕ → Type 0) (fault_count calls : D → ℕ) where
   -- A line is answered to its end; or its first entries are there.
   abbrev pub LineIsAnswered : Result (Unit {0}) NotedStop → Noted C D → Noted C D → List ℕ → Whole → HistoryState → HistoryState → Type 0
@@ -103,10 +107,6 @@ module _ {C D : Type 0} (seen : D → List ℕ) (may_leave : D → List ℕ → 
     pub told : IsOf last history
     pub leaves : Leaves start.grain may_leave n last left
     pub holds : Holds left last
-
-  -- The first of these lines are answered, and the stop came so far.
-  abbrev pub LeftBy : Option NotedStop → StopStart → List (List ℕ) → HistoryState → Agenda → Whole → Type 0
-  LeftBy stop s lines history left last = RunsUpTo s.start lines history left last × CallsLeft s.number s.half stop history.entries last left
 
   -- What is said of the lines so far.
   abbrev pub noted_runs : Noted C D → Option NotedStop → StopStart → Runs

@@ -9,7 +9,6 @@ use Rattle.fc_call.specs.Call.{Call, empty}
 use Rattle.fc_call.specs.declared.status.Status.{Status}
 use Rattle.fc_call.specs.declared.status.Status.TheVariants as status
 use Rattle.fc_changed.specs.Row.{Row}
-use Rattle.fc_entry.specs.HistoryState.{HistoryState}
 use Rattle.fc_entry.specs.Lines.{all_lines, ended_lines}
 use Rattle.fc_entry.specs.Text.{history_text}
 use Rattle.fc_grains.specs.Grains.{pool_of}

@@ -6,11 +6,10 @@ use Rattle.fc_stands.proofs.CommandRuns.{HasRoom, can_settle}
 use Rattle.fc_stands.proofs.Frames.{all_go_on}
 use Rattle.law_noted.specs.Records.{removed_by}
 use Rattle.fc_noted.proofs.CommandEntry.{decides_then, done_leads, done_leaves, done_stops, good_anew, lanes_undone, settled_leaves, settled_stops, undone_leaves, undone_stops, unsettled_leaves, unsettled_stops, failed_into}
-use Rattle.fc_noted.specs.Making.{AnewOr}
+use Rattle.fc_noted.specs.Making.{AnewOr, done}
 use Rattle.std.proofs.lemmas.Result.{err_from_is_err_and}
-use Rattle.fc_noted.proofs.MeteringNoted.{calls_of_error, no_calls, same_calls}
-use Rattle.fc_noted.proofs.CallsMade.{failed_as}
-use Rattle.fc_marks.specs.declared.error.NotedStop.TheVariants.{NoMemory as WantsMemory}
+use Rattle.fc_noted.proofs.MeteringNoted.{calls_of_error, no_calls, none_wanting, same_calls}
+use Rattle.fc_noted.proofs.CallsMade.{failed_as, no_error}
 use Rattle.fc_noted.proofs.noted.Noted.carry_out.Goals as goal
 
 -- ---- what each call needs
@@ -126,17 +125,18 @@ returns-clause-lanes g c = all_go_on c.args.self.now.store.lanes c.settle.new.se
 pub returns-in_err-settling-clause-counted : goal.returns-in_err-settling-clause-counted
 returns-in_err-settling-clause-counted g c =
     let p = err_from_is_err_and c.from_residual.result c.from_residual.ensures.1 in
-    rw (p.1, p.2) (no_calls g.M.MetaDisk.seen g.M.MetaDisk.fault_count g.M.MetaDisk.calls (Err c.in_err-settling.field-0.0) c.args.self.now c.settle.new.self (ap (λ n. n.calls) c.settle.ensures.others) (ap (λ n. n.meta) c.settle.ensures.others) c.in_err-settling.ensures.not_failed)
+    rw (p.1, p.2) (no_calls g.M.MetaDisk.seen g.M.MetaDisk.fault_count g.M.MetaDisk.calls (Err c.in_err-settling.field-0.0) c.args.self.now c.settle.new.self (ap (λ n. n.calls) c.settle.ensures.others) (ap (λ n. n.meta) c.settle.ensures.others)
+    (λ e. c.in_err-settling.ensures.not_failed (failed_as c.in_err-settling.field-0.0 e)))
 
 pub returns-in_err-decision-clause-counted : goal.returns-in_err-decision-clause-counted
 returns-in_err-decision-clause-counted g c =
     let p = err_from_is_err_and c.from_residual-in_err-decision.result c.from_residual-in_err-decision.ensures.1 in
-    rw (p.1, p.2) (no_calls g.M.MetaDisk.seen g.M.MetaDisk.fault_count g.M.MetaDisk.calls (Err WantsMemory) c.args.self.now c.settle.new.self (ap (λ n. n.calls) c.settle.ensures.others) (ap (λ n. n.meta) c.settle.ensures.others) (λ e. cc))
+    none_wanting g.M.MetaDisk.seen g.M.MetaDisk.fault_count g.M.MetaDisk.calls c.from_residual-in_err-decision.result p.0 c.args.self.now c.settle.new.self p.1 p.2 (ap (λ n. n.calls) c.settle.ensures.others) (ap (λ n. n.meta) c.settle.ensures.others)
 
 pub returns-in_err-joined-clause-counted : goal.returns-in_err-joined-clause-counted
 returns-in_err-joined-clause-counted g c =
     let p = err_from_is_err_and c.from_residual-in_err-joined.result c.from_residual-in_err-joined.ensures.1 in
-    rw (p.1, p.2) (no_calls g.M.MetaDisk.seen g.M.MetaDisk.fault_count g.M.MetaDisk.calls (Err WantsMemory) c.args.self.now c.settle.new.self (ap (λ n. n.calls) c.settle.ensures.others) (ap (λ n. n.meta) c.settle.ensures.others) (λ e. cc))
+    none_wanting g.M.MetaDisk.seen g.M.MetaDisk.fault_count g.M.MetaDisk.calls c.from_residual-in_err-joined.result p.0 c.args.self.now c.settle.new.self p.1 p.2 (ap (λ n. n.calls) c.settle.ensures.others) (ap (λ n. n.meta) c.settle.ensures.others)
 
 pub returns-in_err-act-clause-counted : goal.returns-in_err-act-clause-counted
 returns-in_err-act-clause-counted g c =
@@ -146,8 +146,8 @@ returns-in_err-act-clause-counted g c =
 
 pub returns-clause-counted : goal.returns-clause-counted
 returns-clause-counted g c =
-    same_calls g.M.MetaDisk.seen g.M.MetaDisk.fault_count g.M.MetaDisk.calls (Ok tt) (Ok (c.in_ok-decision.decision, c.in_ok-joined.joined)) c.args.self.now c.settle.new.self c.act.new.self c.act.new.self (ap (λ n. n.calls) c.settle.ensures.others) (ap (λ n. n.meta) c.settle.ensures.others) refl refl
-    (λ P p. p) (λ e. cc) c.in_ok-act.ensures.counted
+    same_calls g.M.MetaDisk.seen g.M.MetaDisk.fault_count g.M.MetaDisk.calls done (Ok (c.in_ok-decision.decision, c.in_ok-joined.joined)) c.args.self.now c.settle.new.self c.act.new.self c.act.new.self (ap (λ n. n.calls) c.settle.ensures.others) (ap (λ n. n.meta) c.settle.ensures.others) refl refl
+    (λ P p. p) (λ e. absurd (no_error (c.in_ok-decision.decision, c.in_ok-joined.joined) e)) c.in_ok-act.ensures.counted
 
 pub returns-in_err-act-clause-into : goal.returns-in_err-act-clause-into
 returns-in_err-act-clause-into g c =

@@ -1,9 +1,8 @@
 -- Metadata is made anew by six calls, which are counted before they are made.
-use Rattle.std.proofs.Common.{◌≡◌, Err, ℕ, ◌+◌, inl, inr, sym, ap, ◌∙◌, arith}
+use Rattle.std.proofs.Common.{Err, ℕ, ◌+◌, inl, inr, ap, ◌∙◌, arith}
 use Rattle.std.proofs.lemmas.Result.{err_from_is_err_and}
 use Rattle.fc_marks.proofs.Counting.{few_made, same_size, some_made}
 use Rattle.fc_marks.specs.Stops.{stop_of_meta}
-use Rattle.fc_meta.specs.Answers.{more_calls}
 use Rattle.fc_meta.specs.States.{Head, disk_of, generation_of}
 use Rattle.fc_meta.specs.declared.error.MetaError.{MetaError}
 use Rattle.fc_noted.proofs.Calls.{at_once}

@@ -1,5 +1,5 @@
 -- A move that copies nothing is made behind its record; or the disk of metadata stopped.
-use Rattle.std.proofs.Common.{Some, None, refl, ap, sym, subst, ◌∙◌}
+use Rattle.std.proofs.Common.{refl, ap, sym, subst, ◌∙◌}
 use Rattle.std.specs.Prelude.{Err}
 use Rattle.std.proofs.lemmas.Result.{err_from_is_err_and}
 use Rattle.fc_lane.specs.Doing.{IsUnderWay}
@@ -7,8 +7,7 @@ use Rattle.fc_marks.specs.declared.error.NotedStop.{NotedStop}
 use Rattle.fc_noted.proofs.Alone.{alone_failed, alone_made_by}
 use Rattle.fc_noted.proofs.KeepingLanes.{lanes_still, step_keeps}
 use Rattle.fc_noted.proofs.MeteringNoted.{calls_of_error, same_calls}
-use Rattle.fc_noted.specs.Making.{KeepLanes, WayMade, done}
-use Rattle.fc_noted.specs.declared.noted.UnderWay.{UnderWay}
+use Rattle.fc_noted.specs.Making.{WayMade, done}
 use Rattle.fc_store.specs.Stepping.{IsInLane, lane_in}
 use Rattle.fc_noted.proofs.noted.Noted.make_move.Goals as goal
 

@@ -1,13 +1,10 @@
 -- Over disks without names, with the first image.
 use Rattle.std.proofs.Common.{None, true, refl, sym, subst, ◌∙◌, arith, ◌/◌, ap}
 use Rattle.fc_format.specs.Ranges.{HasGoodIds}
-use Rattle.fc_kept.specs.Images.{meta_of}
 use Rattle.fc_lanes.specs.Dealing.{pools_dealt}
-use Rattle.fc_meta.proofs.Opening.{blank}
 use Rattle.fc_script.specs.declared.script.Script.TheVariants.{Over}
-use Rattle.law_crash.specs.Points.{nothing_kept}
 use Rattle.fc_noted.specs.declared.noted.Noted.{Noted}
-use Rattle.fc_noted.proofs.Opening.{begins, first_ids, image_of_nothing, leaves_first, not_log, was_failed}
+use Rattle.fc_noted.proofs.Opening.{begins, first_ids, image_of_nothing, leaves_first, leaves_untouched, not_log, was_failed}
 use Rattle.fc_marks.proofs.Counting.{some_made}
 use Rattle.fc_noted.proofs.Calls.{at_once}
 use Rattle.fc_noted.proofs.noted.Noted.over.Goals as goal
@@ -15,8 +12,7 @@ use Rattle.fc_noted.proofs.noted.Noted.over.Goals as goal
 -- refused before the disk of metadata is called
 pub returns-in-Err-clause-any_moment : goal.returns-in-Err-clause-any_moment
 returns-in-Err-clause-any_moment g c =
-    leaves_first g.M.MetaDisk.moment g.M.MetaDisk.left_since c.args.disk c.args.disk (meta_of nothing_kept) refl
-    (blank g.M.MetaDisk.seen g.M.MetaDisk.may_leave g.M.MetaDisk.moment g.M.MetaDisk.left_since g.met.M.MetaDisk.only_now c.args.disk (meta_of nothing_kept) c.requires.zeros c.requires.synced)
+    leaves_untouched g.M.MetaDisk.moment g.M.MetaDisk.left_since g.M.MetaDisk.seen g.M.MetaDisk.may_leave g.met.M.MetaDisk.only_now c.args.disk c.requires.zeros c.requires.synced
 
 pub open-requires-clause-ids : goal.open-requires-clause-ids
 open-requires-clause-ids g c =
