@@ -117,15 +117,15 @@ volume_columns grain t =
     ∷ report_column (codes "fc_map_count") (λ v. decimal (count_by (copies_volume v.id) t.mappings))
     ∷ []
 
-abbrev pub kind_text : DiskKind → List ℕ
-kind_text Flat = codes "flat"
-kind_text Thin = codes "thin"
+abbrev pub disk_kind_text : DiskKind → List ℕ
+disk_kind_text Flat = codes "flat"
+disk_kind_text Thin = codes "thin"
 
 abbrev pub room_columns : List Room → List (ReportColumn Volume)
 room_columns rooms =
     report_column (codes "id") (λ v. decimal v.id.0)
     ∷ report_column (codes "name") (λ v. v.name)
-    ∷ report_column (codes "kind") (λ v. kind_text v.kind)
+    ∷ report_column (codes "kind") (λ v. disk_kind_text v.kind)
     ∷ report_column (codes "used") (λ v. decimal (used_in rooms v.id.0))
     ∷ report_column (codes "grains") (λ v. decimal v.grains)
     ∷ []

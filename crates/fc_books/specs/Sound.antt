@@ -11,7 +11,7 @@ use Rattle.fc_base.specs.declared.volume.Mapping.{Mapping}
 use Rattle.fc_base.specs.declared.volume.Volume.{Volume}
 use Rattle.fc_books.specs.Accesses.{is_idle}
 use Rattle.fc_books.specs.Books.{Books}
-use Rattle.fc_pick.specs.Flags.{IsRising}
+use Rattle.fc_pick.specs.Flags.{AreByMapping}
 use Rattle.fc_pick.specs.declared.work.WorkFlags.{WorkFlags}
 
 -- In each table ids rise and no name comes twice, and ids that are given next were never given.
@@ -62,7 +62,7 @@ pub record Agree (b : Books) : Type 0 where
 
 -- Background work is noted by id, of mappings that were made.
 pub record AreFlags (b : Books) : Type 0 where
-  pub rising : IsRising b.flags
+  pub rising : AreByMapping b.flags
   pub given : All (λ (row : WorkFlags). row.map.0 < b.next_mapping) b.flags
 
 -- All of it, and the facts of the chains.

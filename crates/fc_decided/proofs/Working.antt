@@ -14,7 +14,7 @@ use Rattle.fc_books.specs.Books.{Books}
 use Rattle.fc_books.specs.Work.{copies, cleans, changes_work, work_events}
 use Rattle.fc_entry.specs.Picture.{Picture}
 use Rattle.fc_legal.specs.Lawful.{HaveDisks}
-use Rattle.fc_pick.specs.Flags.{IsRising, is_flagged, before, behind, with_flags, without_flags}
+use Rattle.fc_pick.specs.Flags.{AreByMapping, is_flagged, before, behind, with_flags, without_flags}
 use Rattle.fc_pick.specs.declared.work.WorkFlags.{WorkFlags}
 use Rattle.fc_pick.proofs.Rising.{IsAbove, Rises, rises, pairs_of}
 use Rattle.fc_pick.proofs.Rows.{number, rising_with}
@@ -28,7 +28,7 @@ use Rattle.fc_decided.proofs.Lists.{first_in, later_in, filter_from}
 
 -- Rows by id, of mappings below a number.
 abbrev pub AreNoted : ℕ → List WorkFlags → Type 0
-AreNoted n rows = IsRising rows × All (λ (row : WorkFlags). row.map.0 < n) rows
+AreNoted n rows = AreByMapping rows × All (λ (row : WorkFlags). row.map.0 < n) rows
 
 above_short : (k : ℕ) (xs : List WorkFlags) (y : WorkFlags) (zs : List WorkFlags) → IsAbove number k (xs ++ y ∷ zs) → IsAbove number k (xs ++ zs)
 above_short k [] y zs above = above.1
@@ -38,7 +38,7 @@ rises_short : (xs : List WorkFlags) (y : WorkFlags) (zs : List WorkFlags) → Ri
 rises_short [] y zs rising = rising.1
 rises_short (x ∷ xs) y zs rising = (above_short (number x) xs y zs rising.0, rises_short xs y zs rising.1)
 
-rising_flags : (row : WorkFlags) (rows : List WorkFlags) → IsRising rows → IsRising (with_flags row rows)
+rising_flags : (row : WorkFlags) (rows : List WorkFlags) → AreByMapping rows → AreByMapping (with_flags row rows)
 rising_flags row rows rising = by (is_flagged row)
   where
     lows : List WorkFlags
@@ -47,12 +47,12 @@ rising_flags row rows rising = by (is_flagged row)
     highs : List WorkFlags
     highs = behind row.map.0 rows
 
-    whole : IsRising (lows ++ row ∷ highs)
+    whole : AreByMapping (lows ++ row ∷ highs)
     whole = rising_with row rows rising
 
-    by : (b : Bool) → IsRising ((lows ++ cond b (row ∷ []) []) ++ highs)
-    by true = subst IsRising (sym (append_assoc lows (row ∷ []) highs)) whole
-    by false = subst IsRising (sym (append_assoc lows [] highs)) (pairs_of number (lows ++ highs) (rises_short lows row highs (rises number (lows ++ row ∷ highs) whole)))
+    by : (b : Bool) → AreByMapping ((lows ++ cond b (row ∷ []) []) ++ highs)
+    by true = subst AreByMapping (sym (append_assoc lows (row ∷ []) highs)) whole
+    by false = subst AreByMapping (sym (append_assoc lows [] highs)) (pairs_of number (lows ++ highs) (rises_short lows row highs (rises number (lows ++ row ∷ highs) whole)))
 
 noted_flags : (n : ℕ) (row : WorkFlags) (rows : List WorkFlags) → row.map.0 < n → AreNoted n rows → AreNoted n (with_flags row rows)
 noted_flags n row rows lt noted = (

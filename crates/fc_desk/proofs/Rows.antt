@@ -4,7 +4,7 @@ use Rattle.std.proofs.lemmas.Bool.Decides.{nat_tests}
 use Rattle.std.specs.List.{find}
 use Rattle.fc_pick.proofs.First.{find_first}
 use Rattle.fc_pick.proofs.Rows.{there_within, row_there}
-use Rattle.fc_pick.specs.Flags.{IsRising, before, has_mapping}
+use Rattle.fc_pick.specs.Flags.{AreByMapping, before, has_mapping}
 use Rattle.fc_pick.specs.declared.work.WorkFlags.{WorkFlags}
 
 -- where no row is the mapping's, none is found
@@ -20,7 +20,7 @@ none_found m (row ∷ rows) new = by (none_found m rows) (nat_eq m row.map.0) re
         rw differs (rest (same ∙ new))
 
 -- the row at the mapping's place is the one that is found, since those before it have lower ids
-pub row_found : (m : ℕ) (rows : List WorkFlags) → IsRising rows → (place : ℕ) → place ≡ length (before m rows) → has_mapping m rows ≡ true → (d : WorkFlags) → Some (get_or rows place d) ≡ find (λ (row : WorkFlags). nat_eq row.map.0 m) rows
+pub row_found : (m : ℕ) (rows : List WorkFlags) → AreByMapping rows → (place : ℕ) → place ≡ length (before m rows) → has_mapping m rows ≡ true → (d : WorkFlags) → Some (get_or rows place d) ≡ find (λ (row : WorkFlags). nat_eq row.map.0 m) rows
 row_found m rows rising place is there d = sym (find_first (λ (row : WorkFlags). nat_eq row.map.0 m) rows place d lower within (own d))
   where
     within : place < length rows

@@ -4,7 +4,7 @@ use Rattle.std.proofs.lemmas.Bool.Decides.{nat_tests}
 use Rattle.std.proofs.lemmas.List.Kept.{AllPairs-filter}
 use Rattle.fc_base.specs.declared.ids.MapId.{MapId}
 use Rattle.fc_pick.specs.declared.work.WorkFlags.{WorkFlags}
-use Rattle.fc_pick.specs.Flags.{IsRising, is_flagged, before, behind, has_mapping, with_row, with_flags, without_flags}
+use Rattle.fc_pick.specs.Flags.{AreByMapping, is_flagged, before, behind, has_mapping, with_row, with_flags, without_flags}
 use Rattle.fc_pick.proofs.Rising.{Rises, IsAbove, rises, take_lows, put_known, apart, lt_false}
 use Rattle.fc_pick.proofs.Rows.{number, rising_with}
 
@@ -37,7 +37,7 @@ drop_past [] y ys = refl
 drop_past (x ∷ xs) y ys = drop_past xs y ys
 
 -- the row at the mapping's place goes
-pub taken_out : (m : MapId) (rows : List WorkFlags) → IsRising rows → has_mapping m.0 rows ≡ true → (d : WorkFlags) → take (length (before m.0 rows)) rows ++ drop (suc (length (before m.0 rows))) rows ≡ without_flags m rows
+pub taken_out : (m : MapId) (rows : List WorkFlags) → AreByMapping rows → has_mapping m.0 rows ≡ true → (d : WorkFlags) → take (length (before m.0 rows)) rows ++ drop (suc (length (before m.0 rows))) rows ≡ without_flags m rows
 taken_out m rows rising there d =
     let P : List WorkFlags → Type 0 = λ rs. drop (suc (length (before m.0 rows))) rs ≡ behind m.0 rows in
     let past : drop (suc (length (before m.0 rows))) rows ≡ behind m.0 rows =
@@ -45,7 +45,7 @@ taken_out m rows rising there d =
     (λ k. take_lows number m.0 rows (rises number rows rising) k ++ past k) ∙ sym (others m.0 rows (rises number rows rising))
 
 -- a mapping with no row leaves the rows as they are
-pub none_out : (m : MapId) (rows : List WorkFlags) → IsRising rows → has_mapping m.0 rows ≡ false → rows ≡ without_flags m rows
+pub none_out : (m : MapId) (rows : List WorkFlags) → AreByMapping rows → has_mapping m.0 rows ≡ false → rows ≡ without_flags m rows
 none_out m rows rising new =
     sym (apart number m.0 rows (rises number rows rising) new) ∙ sym (others m.0 rows (rises number rows rising))
 
@@ -53,20 +53,20 @@ none_out m rows rising new =
 pub with_some : (row : WorkFlags) (rows : List WorkFlags) → is_flagged row ≡ true → with_row row rows ≡ with_flags row rows
 with_some row rows e = rw e (sym (append_assoc (before row.map.0 rows) (row ∷ []) (behind row.map.0 rows)))
 
-pub with_none : (row : WorkFlags) (rows : List WorkFlags) → IsRising rows → is_flagged row ≡ false → without_flags row.map rows ≡ with_flags row rows
+pub with_none : (row : WorkFlags) (rows : List WorkFlags) → AreByMapping rows → is_flagged row ≡ false → without_flags row.map rows ≡ with_flags row rows
 with_none row rows rising e =
     rw e (others row.map.0 rows (rises number rows rising) ∙ ap (λ rs. rs ++ behind row.map.0 rows) (sym (append-nil (before row.map.0 rows))))
 
 -- flags rise still, cleared or set
-pub rising_without : (m : MapId) (flags : List WorkFlags) → IsRising flags → IsRising (without_flags m flags)
+pub rising_without : (m : MapId) (flags : List WorkFlags) → AreByMapping flags → AreByMapping (without_flags m flags)
 rising_without m flags rising = AllPairs-filter (λ x y. x.map.0 < y.map.0) (λ x. not (nat_eq m.0 x.map.0)) flags rising
 
-pub rising_flags : (row : WorkFlags) (flags : List WorkFlags) → IsRising flags → IsRising (with_flags row flags)
+pub rising_flags : (row : WorkFlags) (flags : List WorkFlags) → AreByMapping flags → AreByMapping (with_flags row flags)
 rising_flags row flags rising = by (is_flagged row) refl
   where
-    by : (b : Bool) → is_flagged row ≡ b → IsRising (with_flags row flags)
-    by true e = subst IsRising (with_some row flags e) (rising_with row flags rising)
-    by false e = subst IsRising (with_none row flags rising e) (rising_without row.map flags rising)
+    by : (b : Bool) → is_flagged row ≡ b → AreByMapping (with_flags row flags)
+    by true e = subst AreByMapping (with_some row flags e) (rising_with row flags rising)
+    by false e = subst AreByMapping (with_none row flags rising e) (rising_without row.map flags rising)
 
 -- ---- a vector that has room
 
@@ -74,7 +74,7 @@ pub inserted : {E : Type 0} (r : Result (Unit {0}) E) (new put old : List WorkFl
 inserted (Ok x) new put old ok is = is
 inserted (Err e) new put old ok is = cc
 
-pub taken_at : (m : MapId) (rows : List WorkFlags) → IsRising rows → has_mapping m.0 rows ≡ true → (d : WorkFlags) → (place : ℕ) → place ≡ length (before m.0 rows) → take place rows ++ drop (place + 1) rows ≡ without_flags m rows
+pub taken_at : (m : MapId) (rows : List WorkFlags) → AreByMapping rows → has_mapping m.0 rows ≡ true → (d : WorkFlags) → (place : ℕ) → place ≡ length (before m.0 rows) → take place rows ++ drop (place + 1) rows ≡ without_flags m rows
 taken_at m rows rising there d place is =
     let next : place + 1 ≡ suc (length (before m.0 rows)) = omega (arith, is) in
     (λ k. take (is k) rows ++ drop (next k) rows) ∙ taken_out m rows rising there d

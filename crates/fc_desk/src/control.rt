@@ -36,13 +36,13 @@ impl Drop for Control {
 impl Model for Control {
     ghost use Rattle.std.specs.Prelude.{◌-◌, vec_len, vec_capacity};
     ghost use Rattle.fc_desk.specs.Control.{ControlState};
-    ghost use Rattle.fc_pick.specs.Flags.{IsRising};
+    ghost use Rattle.fc_pick.specs.Flags.{AreByMapping};
 
     ghost Value = { ControlState };
 
     ghost view = { λ c. record { grain = c.grain; tables = c.registry.tables; next_volume = c.next_volume; next_mapping = c.next_mapping; next_group = c.next_group; flags = c.flags.items; reserved = c.registry.reserved; room = vec_capacity c.flags - vec_len c.flags } };
 
-    ghost invariant = { λ c. IsRising c.flags.items };
+    ghost invariant = { λ c. AreByMapping c.flags.items };
 }
 
 impl Control {

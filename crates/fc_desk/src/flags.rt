@@ -2,7 +2,7 @@
 
 ghost use Rattle.std.specs.Prelude.{◌≡◌, ◌+◌, ◌-◌, ◌<◌, ◌≤◌, vec_len, vec_capacity};
 ghost use Rattle.fc_desk.specs.Telling.{row_of};
-ghost use Rattle.fc_pick.specs.Flags.{with_flags, with_row, without_flags, IsRising, is_flagged};
+ghost use Rattle.fc_pick.specs.Flags.{with_flags, with_row, without_flags, AreByMapping, is_flagged};
 
 use fc_base::ids::MapId;
 use fc_base::volume::Mapping;
@@ -10,7 +10,7 @@ use fc_pick::{WorkFlags, is_at, place_of};
 
 /// The flags of the mapping, if it has any.
 pub fn row_of(rows: &[WorkFlags], mapping: &Mapping) -> Option<WorkFlags>
-    requires { IsRising rows.now }
+    requires { AreByMapping rows.now }
     ensures { result ≡ row_of rows.now mapping.now }
 {
     let place = place_of(rows, mapping.id);
@@ -23,7 +23,7 @@ pub fn row_of(rows: &[WorkFlags], mapping: &Mapping) -> Option<WorkFlags>
 
 /// The flags of the mapping are those of the row. There has to be room for one row. Takes no memory.
 pub fn set_flags(flags: &mut Vec<WorkFlags>, row: WorkFlags)
-    requires rising { IsRising flags.old.items }
+    requires rising { AreByMapping flags.old.items }
     requires room { vec_len flags.old < vec_capacity flags.old }
     ensures items { flags.new.items ≡ with_flags row flags.old.items }
     ensures room { vec_capacity flags.old - vec_len flags.old ≤ (vec_capacity flags.new - vec_len flags.new) + 1 }
@@ -44,7 +44,7 @@ fn has_flag(row: &WorkFlags) -> bool
 
 /// Puts the row at its place by id, for the one that its mapping had.
 fn put_row(flags: &mut Vec<WorkFlags>, row: WorkFlags)
-    requires rising { IsRising flags.old.items }
+    requires rising { AreByMapping flags.old.items }
     requires room { vec_len flags.old < vec_capacity flags.old }
     ensures items { flags.new.items ≡ with_row row flags.old.items }
     ensures room { vec_capacity flags.old - vec_len flags.old ≤ (vec_capacity flags.new - vec_len flags.new) + 1 }
@@ -59,7 +59,7 @@ fn put_row(flags: &mut Vec<WorkFlags>, row: WorkFlags)
 
 /// The mapping has no flag. Takes no memory.
 pub fn clear_flags(flags: &mut Vec<WorkFlags>, map: MapId)
-    requires { IsRising flags.old.items }
+    requires { AreByMapping flags.old.items }
     ensures items { flags.new.items ≡ without_flags map flags.old.items }
     ensures room { vec_capacity flags.old - vec_len flags.old ≤ vec_capacity flags.new - vec_len flags.new }
 {

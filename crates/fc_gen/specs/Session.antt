@@ -25,20 +25,20 @@ abbrev pub volume : ℕ → Ref
 volume n = Name (drill_name n)
 
 -- a volume of 1 mb, which is 2,048 blocks
-abbrev pub volume_line : ℕ → Command
-volume_line n = Mkvdisk (Some (drill_name n)) 1 None false
+abbrev pub drilled_volume : ℕ → Command
+drilled_volume n = Mkvdisk (Some (drill_name n)) 1 None false
 
 -- a mapping between two volumes
-abbrev pub mapping_line : ℕ → ℕ → Option ℕ → Bool → Command
-mapping_line source target copy_rate incremental =
+abbrev pub drilled_mapping : ℕ → ℕ → Option ℕ → Bool → Command
+drilled_mapping source target copy_rate incremental =
     Mkfcmap (volume source) (volume target) None None copy_rate None None incremental false
 
 -- the first lines
 abbrev pub first_commands : List Command
 first_commands =
-    volume_line 0 ∷ volume_line 1 ∷ volume_line 2 ∷ volume_line 3 ∷ volume_line 4 ∷ volume_line 5 ∷ volume_line 6 ∷ volume_line 7
-    ∷ mapping_line 0 1 None true ∷ mapping_line 0 2 None false ∷ mapping_line 1 3 (Some 0) false ∷ mapping_line 3 4 None false
-    ∷ mapping_line 4 5 (Some 10) false ∷ mapping_line 1 0 None false ∷ mapping_line 6 7 None true ∷ mapping_line 2 6 None false ∷ []
+    drilled_volume 0 ∷ drilled_volume 1 ∷ drilled_volume 2 ∷ drilled_volume 3 ∷ drilled_volume 4 ∷ drilled_volume 5 ∷ drilled_volume 6 ∷ drilled_volume 7
+    ∷ drilled_mapping 0 1 None true ∷ drilled_mapping 0 2 None false ∷ drilled_mapping 1 3 (Some 0) false ∷ drilled_mapping 3 4 None false
+    ∷ drilled_mapping 4 5 (Some 10) false ∷ drilled_mapping 1 0 None false ∷ drilled_mapping 6 7 None true ∷ drilled_mapping 2 6 None false ∷ []
 
 -- a command, and the state that drew its last part
 pub record Drawn : Type 0 where

@@ -58,16 +58,16 @@ abbrev pub names_volume : List Mapping → MapId → VolId → Bool
 names_volume mappings id v = list_any (λ m. (m.id.0 == id.0) && ((m.source.0 == v.0) || (m.target.0 == v.0))) mappings
 
 -- the grain counts as changed where the mapping names its volume
-abbrev pub changed_at : List Mapping → MapId → List ℕ → VolId → ℕ → List ℕ
-changed_at mappings id changed v grain = if names_volume mappings id v then with_bit changed grain else changed
+abbrev pub changed_there : List Mapping → MapId → List ℕ → VolId → ℕ → List ℕ
+changed_there mappings id changed v grain = if names_volume mappings id v then with_bit changed grain else changed
 
 -- A write, done or about to begin, changes what the volume shows, and so does a failed one that spoils it.
 abbrev pub changed_after : List Mapping → MapId → List ℕ → MetaRecord → List ℕ
 changed_after mappings id changed (Pair slot volume grain in_place empty) = changed
-changed_after mappings id changed (Written volume grain) = changed_at mappings id changed volume grain.0
-changed_after mappings id changed (Torn volume grain Now) = changed_at mappings id changed volume grain.0
+changed_after mappings id changed (Written volume grain) = changed_there mappings id changed volume grain.0
+changed_after mappings id changed (Torn volume grain Now) = changed_there mappings id changed volume grain.0
 changed_after mappings id changed (Torn volume grain Under) = changed
-changed_after mappings id changed (Changing volume grain) = changed_at mappings id changed volume grain.0
+changed_after mappings id changed (Changing volume grain) = changed_there mappings id changed volume grain.0
 
 abbrev pub changes_after : List Mapping → MetaChanges → MetaRecord → MetaChanges
 changes_after mappings row r = record row { changed = changed_after mappings row.map row.changed r }

@@ -4,7 +4,7 @@ use Rattle.std.proofs.lemmas.List.Kept.{AllPairs-filter}
 use Rattle.fc_base.specs.declared.ids.MapId.{MapId}
 use Rattle.fc_base.specs.declared.ids.GrainNo.{GrainNo}
 use Rattle.fc_pick.specs.declared.work.WorkFlags.{WorkFlags}
-use Rattle.fc_pick.specs.Flags.{WorkState, IsRising, is_flagged, rows_state}
+use Rattle.fc_pick.specs.Flags.{WorkState, AreByMapping, is_flagged, rows_state}
 use Rattle.fc_pick.specs.Next.{can_work, next_work}
 
 -- what passes stands in the part that a weaker test keeps
@@ -54,9 +54,9 @@ module _ (has_flag : WorkFlags → Bool) (flagged : (row : WorkFlags) → has_fl
       let missed : find (can_work has_flag least) state.flags ≡ None = among_flagged ∙ find_none (can_work has_flag least) rows none in
       rw missed refl
 
-pub flags_rise : (rows : List WorkFlags) (state : WorkState) → rows_state rows ≡ state → IsRising rows → IsRising state.flags
+pub flags_rise : (rows : List WorkFlags) (state : WorkState) → rows_state rows ≡ state → AreByMapping rows → AreByMapping state.flags
 flags_rise rows state seen rising =
-    let P : WorkState → Type 0 = λ s. IsRising s.flags in
+    let P : WorkState → Type 0 = λ s. AreByMapping s.flags in
     subst P seen (AllPairs-filter (λ x y. x.map.0 < y.map.0) is_flagged rows rising)
 
 pub copies_flagged : (row : WorkFlags) → row.copies ≡ true → is_flagged row ≡ true

@@ -10,7 +10,7 @@ use Rattle.std.proofs.lemmas.List.Kept.{AllPairs-filter}
 use Rattle.fc_base.specs.declared.outcome.NoMemory.{NoMemory}
 use Rattle.fc_base.specs.declared.ids.MapId.{MapId}
 use Rattle.fc_pick.specs.declared.work.WorkFlags.{WorkFlags}
-use Rattle.fc_pick.specs.Flags.{WorkState, IsRising, is_flagged, rows_state, before, behind, has_mapping, with_row, with_flags, without_flags, is_known, with_number, without_number}
+use Rattle.fc_pick.specs.Flags.{WorkState, AreByMapping, is_flagged, rows_state, before, behind, has_mapping, with_row, with_flags, without_flags, is_known, with_number, without_number}
 use Rattle.fc_pick.proofs.Rising.{Rises, rises, pairs_of, put_rises, put_known, at_known, at_new, apart, set_known, insert_new}
 
 filter_both : {X : Type 0} (p q : X → Bool) (xs : List X) → filter p (filter q xs) ≡ filter q (filter p xs)
@@ -40,7 +40,7 @@ list_any-map f p (x ∷ xs) = ap (λ b. p (f x) || b) (list_any-map f p xs)
 abbrev pub number : WorkFlags → ℕ
 number row = row.map.0
 
-pub rising_with : (row : WorkFlags) (rows : List WorkFlags) → IsRising rows → IsRising (with_row row rows)
+pub rising_with : (row : WorkFlags) (rows : List WorkFlags) → AreByMapping rows → AreByMapping (with_row row rows)
 rising_with row rows rising = pairs_of number (with_row row rows) (put_rises number row.map.0 rows row refl (rises number rows rising))
 
 one_row : (p : WorkFlags → Bool) (row : WorkFlags) (rows : List WorkFlags) → filter p (row ∷ rows) ≡ filter p (row ∷ []) ++ filter p rows
@@ -66,7 +66,7 @@ pub known_is : (m : MapId) (rows : List WorkFlags) → is_known m (map number ro
 known_is m rows = list_any-map number (λ k. nat_eq m.0 k) rows
 
 -- a number that is known already
-pub numbers_same : (m : ℕ) (rows : List WorkFlags) → IsRising rows → has_mapping m rows ≡ true → with_number m (map number rows) ≡ map number rows
+pub numbers_same : (m : ℕ) (rows : List WorkFlags) → AreByMapping rows → has_mapping m rows ≡ true → with_number m (map number rows) ≡ map number rows
 numbers_same m [] rising there = cc
 numbers_same m (row ∷ rows) rising there = by (get_or (row ∷ rows) (length (before m (row ∷ rows))) row) refl
   where
@@ -83,7 +83,7 @@ numbers_same m (row ∷ rows) rising there = by (get_or (row ∷ rows) (length (
         ∙ ap (map number) put
 
 -- a row without a flag, of a mapping that had none
-pub flags_same : (row : WorkFlags) (rows : List WorkFlags) → IsRising rows → has_mapping row.map.0 rows ≡ false → is_flagged row ≡ false → filter is_flagged (with_row row rows) ≡ filter is_flagged rows
+pub flags_same : (row : WorkFlags) (rows : List WorkFlags) → AreByMapping rows → has_mapping row.map.0 rows ≡ false → is_flagged row ≡ false → filter is_flagged (with_row row rows) ≡ filter is_flagged rows
 flags_same row rows rising new plain =
     filter-append is_flagged (before row.map.0 rows) (row ∷ behind row.map.0 rows)
     ∙ (ap (λ b. filter is_flagged (before row.map.0 rows) ++ cond b (row ∷ filter is_flagged (behind row.map.0 rows)) (filter is_flagged (behind row.map.0 rows))) plain
@@ -106,7 +106,7 @@ own a b e = grind (arith, nat_tests)
 other : (a b : ℕ) → b < a → nat_eq a b ≡ false
 other a b higher = grind (arith, nat_tests)
 
-module _ (m : ℕ) (rows : List WorkFlags) (rising : IsRising rows) (place : ℕ) (is : place ≡ length (before m rows)) where
+module _ (m : ℕ) (rows : List WorkFlags) (rising : AreByMapping rows) (place : ℕ) (is : place ≡ length (before m rows)) where
   rise : Rises number rows
   rise = rises number rows rising
 
@@ -130,10 +130,10 @@ module _ (m : ℕ) (rows : List WorkFlags) (rising : IsRising rows) (place : ℕ
   pub place_within : place ≤ length rows
   place_within = rw (is, length-filter (λ row. nat_lt row.map.0 m) rows) (count_by-le-length (λ row. nat_lt row.map.0 m) rows)
 
-pub set_there : (row : WorkFlags) (rows : List WorkFlags) → IsRising rows → (place : ℕ) → place ≡ length (before row.map.0 rows) → has_mapping row.map.0 rows ≡ true → set rows place row ≡ with_row row rows
+pub set_there : (row : WorkFlags) (rows : List WorkFlags) → AreByMapping rows → (place : ℕ) → place ≡ length (before row.map.0 rows) → has_mapping row.map.0 rows ≡ true → set rows place row ≡ with_row row rows
 set_there row rows rising place is there = rw is (set_known number row.map.0 rows row (rises number rows rising) there)
 
-pub insert_there : (row : WorkFlags) (rows : List WorkFlags) → IsRising rows → (place : ℕ) → place ≡ length (before row.map.0 rows) → has_mapping row.map.0 rows ≡ false → insert rows place row ≡ with_row row rows
+pub insert_there : (row : WorkFlags) (rows : List WorkFlags) → AreByMapping rows → (place : ℕ) → place ≡ length (before row.map.0 rows) → has_mapping row.map.0 rows ≡ false → insert rows place row ≡ with_row row rows
 insert_there row rows rising place is new = rw is (insert_new number row.map.0 rows row (rises number rows rising) new)
 
 -- a place and an answer that were told of the rows, as they were seen
@@ -146,9 +146,9 @@ told_of m rows held same is told = ap (has_mapping m) (sym same) ∙ (sym is ∙
 -- ---- What a row that was put, or refused, leaves
 
 module _ (new old : List WorkFlags) (row : WorkFlags) (state : WorkState) (seen : rows_state old ≡ state) where
-  pub put_rising : (r : Result (Unit {0}) NoMemory) → IsRising old → OnOk r (new ≡ with_row row old) → OnErr r (new ≡ old) → IsRising new
-  put_rising (Ok x) rising ok err = subst IsRising (sym ok) (rising_with row old rising)
-  put_rising (Err e) rising ok err = subst IsRising (sym err) rising
+  pub put_rising : (r : Result (Unit {0}) NoMemory) → AreByMapping old → OnOk r (new ≡ with_row row old) → OnErr r (new ≡ old) → AreByMapping new
+  put_rising (Ok x) rising ok err = subst AreByMapping (sym ok) (rising_with row old rising)
+  put_rising (Err e) rising ok err = subst AreByMapping (sym err) rising
 
   pub put_flags : (r : Result (Unit {0}) NoMemory) → OnOk r (new ≡ with_row row old) → OnOk r (filter is_flagged new ≡ with_flags row state.flags)
   put_flags (Ok x) ok = ap (filter is_flagged) ok ∙ (flags_with row old ∙ ap (λ s. with_flags row s.flags) seen)
@@ -159,14 +159,14 @@ module _ (new old : List WorkFlags) (row : WorkFlags) (state : WorkState) (seen 
   put_numbers (Err e) ok = tt
 
   -- a row without a flag
-  pub put_plain : (r : Result (Unit {0}) NoMemory) → IsRising old → has_mapping row.map.0 old ≡ false → is_flagged row ≡ false → OnOk r (new ≡ with_row row old) → OnErr r (new ≡ old) → filter is_flagged new ≡ state.flags
+  pub put_plain : (r : Result (Unit {0}) NoMemory) → AreByMapping old → has_mapping row.map.0 old ≡ false → is_flagged row ≡ false → OnOk r (new ≡ with_row row old) → OnErr r (new ≡ old) → filter is_flagged new ≡ state.flags
   put_plain (Ok x) rising absent plain ok err = ap (filter is_flagged) ok ∙ (flags_same row old rising absent plain ∙ ap (λ s. s.flags) seen)
   put_plain (Err e) rising absent plain ok err = ap (filter is_flagged) err ∙ ap (λ s. s.flags) seen
 
 pub known_seen : (m : MapId) (old : List WorkFlags) (state : WorkState) → rows_state old ≡ state → is_known m state.known ≡ has_mapping m.0 old
 known_seen m old state seen = ap (λ s. is_known m s.known) (sym seen) ∙ known_is m old
 
-pub numbers_kept : (m : ℕ) (old : List WorkFlags) (state : WorkState) → rows_state old ≡ state → IsRising old → has_mapping m old ≡ true → state.known ≡ with_number m state.known
+pub numbers_kept : (m : ℕ) (old : List WorkFlags) (state : WorkState) → rows_state old ≡ state → AreByMapping old → has_mapping m old ≡ true → state.known ≡ with_number m state.known
 numbers_kept m old state seen rising there =
     let P : WorkState → Type 0 = λ s. s.known ≡ with_number m s.known in
     subst P seen (sym (numbers_same m old rising there))
@@ -177,5 +177,5 @@ forgotten_flags m new old state seen is = ap (filter is_flagged) is ∙ (flags_w
 pub forgotten_numbers : (m : MapId) (new old : List WorkFlags) (state : WorkState) → rows_state old ≡ state → new ≡ filter (λ row. not (nat_eq m.0 row.map.0)) old → map number new ≡ without_number m state.known
 forgotten_numbers m new old state seen is = ap (map number) is ∙ (numbers_without m old ∙ ap (λ s. without_number m s.known) seen)
 
-pub forgotten_rising : (m : MapId) (new old : List WorkFlags) → IsRising old → new ≡ filter (λ row. not (nat_eq m.0 row.map.0)) old → IsRising new
-forgotten_rising m new old rising is = subst IsRising (sym is) (AllPairs-filter (λ x y. x.map.0 < y.map.0) (λ row. not (nat_eq m.0 row.map.0)) old rising)
+pub forgotten_rising : (m : MapId) (new old : List WorkFlags) → AreByMapping old → new ≡ filter (λ row. not (nat_eq m.0 row.map.0)) old → AreByMapping new
+forgotten_rising m new old rising is = subst AreByMapping (sym is) (AllPairs-filter (λ x y. x.map.0 < y.map.0) (λ row. not (nat_eq m.0 row.map.0)) old rising)

@@ -9,9 +9,9 @@ pub record WorkState : Type 0 where
   pub flags : List WorkFlags
   pub known : List ℕ
 
--- the ids rise
-abbrev pub IsRising : List WorkFlags → Type 0
-IsRising rows = AllPairs (λ x y. x.map.0 < y.map.0) rows
+-- the ids of the mappings rise
+abbrev pub AreByMapping : List WorkFlags → Type 0
+AreByMapping rows = AllPairs (λ x y. x.map.0 < y.map.0) rows
 
 abbrev pub is_flagged : WorkFlags → Bool
 is_flagged row = row.copies || row.cleans

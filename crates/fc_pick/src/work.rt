@@ -1,7 +1,7 @@
 //! The work flags of the mappings of one lane, and what is to be done next.
 
 ghost use Rattle.std.specs.Prelude.{◌≡◌, [], length, IsTrue, IsOk, OnOk, OnErr, true};
-ghost use Rattle.fc_pick.specs.Flags.{with_flags, without_flags, with_number, without_number, is_known, before, IsRising, has_mapping, with_row};
+ghost use Rattle.fc_pick.specs.Flags.{with_flags, without_flags, with_number, without_number, is_known, before, AreByMapping, has_mapping, with_row};
 ghost use Rattle.fc_pick.specs.Next.{next_work};
 
 use crate::grid::Grid;
@@ -29,13 +29,13 @@ pub struct Work {
 }
 
 impl Model for Work {
-    ghost use Rattle.fc_pick.specs.Flags.{WorkState, rows_state, IsRising};
+    ghost use Rattle.fc_pick.specs.Flags.{WorkState, rows_state, AreByMapping};
 
     ghost Value = { WorkState };
 
     ghost view = { λ w. rows_state w.rows.items };
 
-    ghost invariant = { λ w. IsRising w.rows.items };
+    ghost invariant = { λ w. AreByMapping w.rows.items };
 }
 
 impl Work {
@@ -100,7 +100,7 @@ impl Work {
     /// there is none. Takes no memory.
     pub fn next_copy<G: Grid>(&self, grid: &G) -> Option<(MapId, GrainNo)>
         ensures next { result ≡ next_work (λ row. row.copies) (G.least_lacking grid.now) self.now.flags }
-        ensures by_id { IsRising self.now.flags }
+        ensures by_id { AreByMapping self.now.flags }
     {
         for copier in self.rows.as_slice() {
             if copier.copies {
@@ -116,7 +116,7 @@ impl Work {
     /// there is none. Takes no memory.
     pub fn next_clean<G: Grid>(&self, grid: &G) -> Option<(MapId, GrainNo)>
         ensures next { result ≡ next_work (λ row. row.cleans) (G.least_needed grid.now) self.now.flags }
-        ensures by_id { IsRising self.now.flags }
+        ensures by_id { AreByMapping self.now.flags }
     {
         for cleaner in self.rows.as_slice() {
             if cleaner.cleans {
@@ -131,7 +131,7 @@ impl Work {
 
 /// Whether the mapping has a row.
 fn has_row(rows: &[WorkFlags], map: MapId) -> bool
-    requires { IsRising rows.now }
+    requires { AreByMapping rows.now }
     ensures { result ≡ has_mapping map.0 rows.now }
 {
     is_at(rows, place_of(rows, map), map)
@@ -140,7 +140,7 @@ fn has_row(rows: &[WorkFlags], map: MapId) -> bool
 /// Puts the row at its place by id, for the one that its mapping had. Refused, the rows are as they were. Where its
 /// mapping has a row it takes no memory.
 fn put_row(rows: &mut Vec<WorkFlags>, row: WorkFlags) -> Result<(), NoMemory>
-    requires { IsRising rows.old.items }
+    requires { AreByMapping rows.old.items }
     ensures ok { OnOk result (rows.new.items ≡ with_row row rows.old.items) }
     ensures err { OnErr result (rows.new.items ≡ rows.old.items) }
     ensures there { has_mapping row.map.0 rows.old.items ≡ true → IsOk result }
@@ -158,7 +158,7 @@ fn put_row(rows: &mut Vec<WorkFlags>, row: WorkFlags) -> Result<(), NoMemory>
 
 /// The place of the mapping among rows in order of id: how many have a lower one.
 pub fn place_of(rows: &[WorkFlags], map: MapId) -> usize
-    requires { IsRising rows.now }
+    requires { AreByMapping rows.now }
     ensures { result ≡ length (before map.0 rows.now) }
 {
     rows.partition_point(|row| row.map.0 < map.0)
@@ -166,7 +166,7 @@ pub fn place_of(rows: &[WorkFlags], map: MapId) -> usize
 
 /// Whether the mapping's row stands at the place, which has to be its place by id.
 pub fn is_at(rows: &[WorkFlags], place: usize, map: MapId) -> bool
-    requires rising { IsRising rows.now }
+    requires rising { AreByMapping rows.now }
     requires place { place ≡ length (before map.0 rows.now) }
     ensures { result ≡ has_mapping map.0 rows.now }
 {

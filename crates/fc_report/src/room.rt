@@ -2,7 +2,7 @@
 
 ghost use Rattle.std.specs.Prelude.{◌≡◌, List, [], ◌∷◌, ◌++◌, IfOk, OnOk};
 ghost use Rattle.fc_base.specs.Room.{Room};
-ghost use Rattle.fc_books.specs.Columns.{kind_text, room_columns};
+ghost use Rattle.fc_books.specs.Columns.{disk_kind_text, room_columns};
 ghost use Rattle.fc_books.specs.Layout.{headings, fields, table};
 
 use crate::fields::{Fields, Table, headed, put_named, put_numbers, put_text, row_of};
@@ -65,7 +65,7 @@ fn room_fields<S: Sheet>(alloc: Global, sheet: &S, volume: &Volume) -> Result<Fi
 
 /// The word for the disks of a volume.
 fn kind_word(kind: DiskKind) -> &'static [u8]
-    ensures { result.now ≡ kind_text kind }
+    ensures { result.now ≡ disk_kind_text kind }
 {
     match kind {
         DiskKind::Flat => b"flat",

@@ -17,7 +17,7 @@ use Rattle.fc_base.specs.declared.command.StopWay.TheVariants.{Plain, Force, Spl
 use Rattle.fc_base.specs.declared.name.Ref.TheVariants.{Id}
 use Rattle.fc_blocks.specs.Segments.{Cut, Segment, single, cut, cut_step, line_cut, outside}
 use Rattle.fc_entry.specs.Lines.{Lined, all_lines, last_line, line_step, without_return}
-use Rattle.fc_gen.specs.Session.{blocks_from, draw, draw_advance, draw_read, draw_start, draw_stop, draw_write, drawn_commands, drawn_of, drill_name, first_commands, lines_of, mapping_line, next_draw, session_text, volume, volume_line, way_of}
+use Rattle.fc_gen.specs.Session.{blocks_from, draw, draw_advance, draw_read, draw_start, draw_stop, draw_write, drawn_commands, drawn_of, drill_name, first_commands, lines_of, drilled_mapping, next_draw, session_text, volume, drilled_volume, way_of}
 use Rattle.fc_legal.specs.WithoutBlocks.{AreLines}
 use Rattle.fc_words.proofs.LinesBack.{reads_back}
 use Rattle.fc_words.proofs.ValueLemmas.{both, list_all-weaker, number-all}
@@ -81,10 +81,10 @@ AreDrawn-append : (cs ds : List Command) → AreDrawn cs → AreDrawn ds → Are
 AreDrawn-append [] ds first rest = rest
 AreDrawn-append (c ∷ cs) ds first rest = (first.0, AreDrawn-append cs ds first.1 rest)
 
-volume_drawn : (n : ℕ) → n < 8 → IsDrawn (volume_line n)
+volume_drawn : (n : ℕ) → n < 8 → IsDrawn (drilled_volume n)
 volume_drawn n small = record { good = (name_good n small, omega arith); plain = rw (name_plain n small, number_plain 1 (omega arith)) refl }
 
-mapping_drawn : (source target : ℕ) (rate : Option ℕ) (incremental : Bool) → source < 8 → target < 8 → IfSome rate IsNumber → IsDrawn (mapping_line source target rate incremental)
+mapping_drawn : (source target : ℕ) (rate : Option ℕ) (incremental : Bool) → source < 8 → target < 8 → IfSome rate IsNumber → IsDrawn (drilled_mapping source target rate incremental)
 mapping_drawn source target None true s t few =
     record { good = (name_good source s, name_good target t, tt, tt, tt, tt); plain = rw (name_plain source s, name_plain target t) refl }
 mapping_drawn source target None false s t few =

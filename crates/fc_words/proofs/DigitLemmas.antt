@@ -8,7 +8,7 @@ use Rattle.std.proofs.lemmas.List.{at_drop_all}
 use Rattle.std.proofs.lemmas.Bool.{ltb-false, le-ltb}
 use Rattle.std.proofs.lemmas.Bool.Decides.{nat_tests}
 use Rattle.fc_words.specs.Digits.{pushed}
-use Rattle.fc_words.specs.Values.{number_of, is_numeral}
+use Rattle.fc_words.specs.Values.{number_in, is_numeral}
 
 -- all digits, one after the other
 abbrev pub pushed_all : ℕ → List ℕ → Option ℕ
@@ -40,7 +40,7 @@ pushed_all-below value (byte ∷ word) small =
     pushed_more (λ v. pushed_all v word) (is_digit byte 10) (ltb next (2 ^ 32)) (list_all (λ b. is_digit b 10) word) (ltb (digits_value_after 10 next word) (2 ^ 32)) next (digits_value_after 10 next word) more over
 
 -- a word that isn't empty, read so, is its number
-pub pushed_all-number : (word : List ℕ) → 0 < length word → pushed_all 0 word ≡ number_of word
+pub pushed_all-number : (word : List ℕ) → 0 < length word → pushed_all 0 word ≡ number_in word
 pushed_all-number [] some = absurd (omega arith)
 pushed_all-number (byte ∷ word) some = pushed_all-below 0 (byte ∷ word) (lit< tt)
 

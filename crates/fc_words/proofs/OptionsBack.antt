@@ -29,13 +29,13 @@ use Rattle.fc_words.specs.declared.grammar.Setting.{Setting}
 use Rattle.fc_words.specs.declared.grammar.Setting.TheVariants.{Delim}
 use Rattle.fc_words.specs.declared.grammar.Verb.{Verb}
 use Rattle.fc_words.specs.Canonical.{IsName, IsNumber, IsObject, IsDelim}
-use Rattle.fc_words.specs.Given.{no_settings, no_flags, no_operands, raise, is_raised, set, is_set, is_wanted, take}
+use Rattle.fc_words.specs.Given.{no_settings, no_flags, no_operands, raise, is_raised, set, has_setting, is_wanted, take}
 use Rattle.fc_words.specs.Grammar.{option_of, option_spelling, operands_of}
 use Rattle.fc_words.specs.Lines.{begins_with, read_words, stop_way}
-use Rattle.fc_words.specs.Values.{on_read, number_of, byte_of, delim_of, unit_of, grain_size_of, preset_of, name_of, ref_at}
+use Rattle.fc_words.specs.Values.{on_read, number_in, byte_of, delim_of, unit_of, grain_size_of, preset_of, name_of, ref_at}
 use Rattle.fc_words.proofs.JoinLemmas.{is_word, is_word-decimal, is_word-name, is_word-ref, is_word-byte, is_word-delim}
 use Rattle.fc_words.proofs.ReadsBack.{having, Reads, Reads-end, Reads-flag, Reads-setting, Reads-operand, Reads-more, Reads-raised}
-use Rattle.fc_words.proofs.ValueLemmas.{number_of-decimal, name_of-name, ref_at-word, begins_with-decimal, begins_with-ref, byte_of-word, delim_of-printable}
+use Rattle.fc_words.proofs.ValueLemmas.{number_in-decimal, name_of-name, ref_at-word, begins_with-decimal, begins_with-ref, byte_of-word, delim_of-printable}
 
 -- a fact of nothing
 pub always : {T : Type 0} (value : Option T) → IfSome value (λ _. ⊤)
@@ -54,10 +54,10 @@ pub names : Values name_word name_at IsName
 names = record { stands = is_word-name; back = λ name good at. rw (name_of-name name good) refl }
 
 abbrev number_at : ℕ → List ℕ → Result ℕ WordFault
-number_at at word = ok_or (number_of word) (BadNumber at)
+number_at at word = ok_or (number_in word) (BadNumber at)
 
 pub numbers : Values decimal number_at IsNumber
-numbers = record { stands = is_word-decimal; back = λ n good at. rw (number_of-decimal n good) refl }
+numbers = record { stands = is_word-decimal; back = λ n good at. rw (number_in-decimal n good) refl }
 
 pub objects : Values ref_word ref_at IsObject
 objects = record { stands = is_word-ref; back = λ object good at. ref_at-word at object good }
@@ -133,7 +133,7 @@ pub Reads-option : {T : Type 0} {word : T → List ℕ} {read : ℕ → List ℕ
     begins_with 45 (option_spelling (OfSetting setting)) ≡ true →
     is_word (option_spelling (OfSetting setting)) ≡ true →
     option_of verb (option_spelling (OfSetting setting)) ≡ Some (OfSetting setting) →
-    is_set setting (put None) ≡ false →
+    has_setting setting (put None) ≡ false →
     ((at : ℕ) (w : List ℕ) → set setting at w (put None) ≡ on_read (λ x. put (Some x)) (read at w)) →
     Good value →
     Reads verb (put (Some value)) f o words most command →
@@ -148,7 +148,7 @@ pub Reads-given : {T : Type 0} {word : T → List ℕ} {read : ℕ → List ℕ 
     begins_with 45 (option_spelling (OfSetting setting)) ≡ true →
     is_word (option_spelling (OfSetting setting)) ≡ true →
     option_of verb (option_spelling (OfSetting setting)) ≡ Some (OfSetting setting) →
-    is_set setting (put None) ≡ false →
+    has_setting setting (put None) ≡ false →
     ((at : ℕ) (w : List ℕ) → set setting at w (put None) ≡ on_read (λ x. put (Some x)) (read at w)) →
     IfSome value Good →
     Reads verb (put value) f o words most command →

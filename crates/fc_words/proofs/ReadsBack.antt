@@ -13,7 +13,7 @@ use Rattle.fc_words.specs.declared.grammar.LineOption.TheVariants.{Flag as OfFla
 use Rattle.fc_words.specs.declared.grammar.Operand.{Operand}
 use Rattle.fc_words.specs.declared.grammar.Setting.{Setting}
 use Rattle.fc_words.specs.declared.grammar.Verb.{Verb}
-use Rattle.fc_words.specs.Given.{set, is_set, raise, is_raised, is_wanted, take}
+use Rattle.fc_words.specs.Given.{set, has_setting, raise, is_raised, is_wanted, take}
 use Rattle.fc_words.specs.Grammar.{option_of, option_spelling, operands_of}
 use Rattle.fc_words.specs.Lines.{begins_with, read_words}
 use Rattle.fc_words.proofs.JoinLemmas.{is_word}
@@ -33,7 +33,7 @@ pub Reads-setting : (verb : Verb) (setting : Setting) (s s' : Settings) (f : Fla
     begins_with 45 (option_spelling (OfSetting setting)) ≡ true →
     is_word (option_spelling (OfSetting setting)) ≡ true →
     option_of verb (option_spelling (OfSetting setting)) ≡ Some (OfSetting setting) →
-    is_set setting s ≡ false →
+    has_setting setting s ≡ false →
     is_word value ≡ true →
     ((at : ℕ) → set setting at value s ≡ Ok s') →
     Reads verb s' f o words most command →

@@ -13,7 +13,7 @@ use Rattle.fc_base.specs.declared.name.Ref.{Ref}
 use Rattle.fc_base.specs.declared.name.Ref.TheVariants.{Id, Name}
 use Rattle.fc_words.specs.Canonical.{IsObject}
 use Rattle.fc_words.specs.Lines.{begins_with}
-use Rattle.fc_words.specs.Values.{number_of, is_numeral, byte_of, delim_of, name_of, ref_at}
+use Rattle.fc_words.specs.Values.{number_in, is_numeral, byte_of, delim_of, name_of, ref_at}
 use Rattle.fc_words.specs.Words.{is_blank}
 
 -- both of two tests
@@ -75,11 +75,11 @@ pub is_numeral-decimal : (n : ℕ) → n < 2 ^ 32 → is_numeral (decimal n) ≡
 is_numeral-decimal n small =
     numeral-all (decimal n) (decimal_is_IsNumeral n (omega arith)).0.0 (number-all n small)
 
-number_at : (word : List ℕ) (n : ℕ) → is_numeral word ≡ true → digits_value 10 word ≡ n → n < 2 ^ 32 → number_of word ≡ Some n
+number_at : (word : List ℕ) (n : ℕ) → is_numeral word ≡ true → digits_value 10 word ≡ n → n < 2 ^ 32 → number_in word ≡ Some n
 number_at word n numeral value small = rw (numeral, value, lt-ltb n (2 ^ 32) small) refl
 
-pub number_of-decimal : (n : ℕ) → n < 2 ^ 32 → number_of (decimal n) ≡ Some n
-number_of-decimal n small =
+pub number_in-decimal : (n : ℕ) → n < 2 ^ 32 → number_in (decimal n) ≡ Some n
+number_in-decimal n small =
     number_at (decimal n) n (is_numeral-decimal n small) (decimal_is_IsNumeral n (omega arith)).1 small
 
 -- it is no option
@@ -108,7 +108,7 @@ name_of-name name good = rw good refl
 
 -- an object's word
 pub ref_at-word : (at : ℕ) (ref : Ref) → IsObject ref → ref_at at (ref_word ref) ≡ Ok ref
-ref_at-word at (Id id) good = rw (number_of-decimal id good, is_numeral-decimal id good) refl
+ref_at-word at (Id id) good = rw (number_in-decimal id good, is_numeral-decimal id good) refl
 ref_at-word at (Name name) good = rw (is_numeral-name name good, name_of-name name good) refl
 
 pub begins_with-ref : (ref : Ref) → IsObject ref → begins_with 45 (ref_word ref) ≡ false

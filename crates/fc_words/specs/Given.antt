@@ -17,7 +17,7 @@ use Rattle.fc_words.specs.declared.grammar.Operand.{Operand}
 use Rattle.fc_words.specs.declared.grammar.Operand.TheVariants.{Object, Block, Count, Byte, Grain, Calls, Actor, Role, Turns}
 use Rattle.fc_words.specs.declared.grammar.Setting.{Setting}
 use Rattle.fc_words.specs.declared.grammar.Setting.TheVariants.{Name, Size, Unit as SizeUnit, Source, Target, Group, CopyRate, CleanRate, GrainSize, Seconds, Delim, Preset}
-use Rattle.fc_words.specs.Values.{on_read, number_of, byte_of, delim_of, turns_of, unit_of, grain_size_of, preset_of, role_of, name_of, ref_at}
+use Rattle.fc_words.specs.Values.{on_read, number_in, byte_of, delim_of, turns_of, unit_of, grain_size_of, preset_of, role_of, name_of, ref_at}
 
 -- no option has a value
 abbrev pub no_settings : Settings
@@ -61,32 +61,32 @@ nothing_given = record { waiting = None; settings = no_settings; flags = no_flag
 -- the settings with the value that a word gives to an option
 abbrev pub set : Setting → ℕ → List ℕ → Settings → Result Settings WordFault
 set Name at word s = on_read (λ name. record s { name = Some name }) (ok_or (name_of word) (BadName at))
-set Size at word s = on_read (λ size. record s { size = Some size }) (ok_or (number_of word) (BadNumber at))
+set Size at word s = on_read (λ size. record s { size = Some size }) (ok_or (number_in word) (BadNumber at))
 set SizeUnit at word s = on_read (λ unit. record s { unit = Some unit }) (ok_or (unit_of word) (BadNumber at))
 set Source at word s = on_read (λ source. record s { source = Some source }) (ref_at at word)
 set Target at word s = on_read (λ target. record s { target = Some target }) (ref_at at word)
 set Group at word s = on_read (λ group. record s { group = Some group }) (ref_at at word)
-set CopyRate at word s = on_read (λ rate. record s { copy_rate = Some rate }) (ok_or (number_of word) (BadNumber at))
-set CleanRate at word s = on_read (λ rate. record s { clean_rate = Some rate }) (ok_or (number_of word) (BadNumber at))
+set CopyRate at word s = on_read (λ rate. record s { copy_rate = Some rate }) (ok_or (number_in word) (BadNumber at))
+set CleanRate at word s = on_read (λ rate. record s { clean_rate = Some rate }) (ok_or (number_in word) (BadNumber at))
 set GrainSize at word s = on_read (λ size. record s { grain_size = Some size }) (ok_or (grain_size_of word) (BadNumber at))
-set Seconds at word s = on_read (λ seconds. record s { seconds = Some seconds }) (ok_or (number_of word) (BadNumber at))
+set Seconds at word s = on_read (λ seconds. record s { seconds = Some seconds }) (ok_or (number_in word) (BadNumber at))
 set Delim at word s = on_read (λ delim. record s { delim = Some delim }) (ok_or (delim_of word) (BadName at))
 set Preset at word s = on_read (λ preset. record s { preset = Some preset }) (ok_or (preset_of word) (BadNumber at))
 
 -- whether an option has its value
-abbrev pub is_set : Setting → Settings → Bool
-is_set Name s = is_some s.name
-is_set Size s = is_some s.size
-is_set SizeUnit s = is_some s.unit
-is_set Source s = is_some s.source
-is_set Target s = is_some s.target
-is_set Group s = is_some s.group
-is_set CopyRate s = is_some s.copy_rate
-is_set CleanRate s = is_some s.clean_rate
-is_set GrainSize s = is_some s.grain_size
-is_set Seconds s = is_some s.seconds
-is_set Delim s = is_some s.delim
-is_set Preset s = is_some s.preset
+abbrev pub has_setting : Setting → Settings → Bool
+has_setting Name s = is_some s.name
+has_setting Size s = is_some s.size
+has_setting SizeUnit s = is_some s.unit
+has_setting Source s = is_some s.source
+has_setting Target s = is_some s.target
+has_setting Group s = is_some s.group
+has_setting CopyRate s = is_some s.copy_rate
+has_setting CleanRate s = is_some s.clean_rate
+has_setting GrainSize s = is_some s.grain_size
+has_setting Seconds s = is_some s.seconds
+has_setting Delim s = is_some s.delim
+has_setting Preset s = is_some s.preset
 
 -- the flags with one more
 abbrev pub raise : Flag → Flags → Flags
@@ -110,7 +110,7 @@ is_raised Split f = f.force || f.split
 
 -- whether an option was given already, or the other of `-force` and `-split`
 abbrev pub is_given : LineOption → Given → Bool
-is_given (OfSetting setting) given = is_set setting given.settings
+is_given (OfSetting setting) given = has_setting setting given.settings
 is_given (OfFlag flag) given = is_raised flag given.flags
 
 -- whether a role takes turns
@@ -134,11 +134,11 @@ is_wanted o Turns = takes_turns o.role && is_none o.turns
 -- the operands with one more, that a word gives
 abbrev pub take : Operand → ℕ → List ℕ → Operands → Result Operands WordFault
 take Object at word o = on_read (λ object. record o { object = Some object }) (ref_at at word)
-take Block at word o = on_read (λ block. record o { block = Some block }) (ok_or (number_of word) (BadNumber at))
-take Count at word o = on_read (λ count. record o { count = Some count }) (ok_or (number_of word) (BadNumber at))
+take Block at word o = on_read (λ block. record o { block = Some block }) (ok_or (number_in word) (BadNumber at))
+take Count at word o = on_read (λ count. record o { count = Some count }) (ok_or (number_in word) (BadNumber at))
 take Byte at word o = on_read (λ byte. record o { byte = Some byte }) (ok_or (byte_of word) (BadNumber at))
-take Grain at word o = on_read (λ grain. record o { grain = Some grain }) (ok_or (number_of word) (BadNumber at))
-take Calls at word o = on_read (λ calls. record o { calls = Some calls }) (ok_or (number_of word) (BadNumber at))
+take Grain at word o = on_read (λ grain. record o { grain = Some grain }) (ok_or (number_in word) (BadNumber at))
+take Calls at word o = on_read (λ calls. record o { calls = Some calls }) (ok_or (number_in word) (BadNumber at))
 take Actor at word o = on_read (λ actor. record o { actor = Some actor }) (ok_or (name_of word) (BadName at))
 take Role at word o = on_read (λ role. record o { role = Some role }) (ok_or (role_of word) (BadNumber at))
 take Turns at word o = on_read (λ turns. record o { turns = Some turns }) (ok_or (turns_of word) (BadNumber at))

@@ -31,8 +31,8 @@ is_numeral [] = false
 is_numeral (byte ∷ word) = list_all (λ b. is_digit b 10) (byte ∷ word)
 
 -- decimal digits, below 2^32
-abbrev pub number_of : List ℕ → Option ℕ
-number_of word = if is_numeral word && nat_lt (digits_value 10 word) (2 ^ 32) then Some (digits_value 10 word) else None
+abbrev pub number_in : List ℕ → Option ℕ
+number_in word = if is_numeral word && nat_lt (digits_value 10 word) (2 ^ 32) then Some (digits_value 10 word) else None
 
 -- the value of a hexadecimal digit of either case
 abbrev pub hex_of : ℕ → Option ℕ
@@ -80,4 +80,4 @@ name_of word = if is_name word then Some word else None
 -- a word of digits is an id, and another a name
 abbrev pub ref_at : ℕ → List ℕ → Result Ref WordFault
 ref_at number word =
-    if is_numeral word then on_read Id (ok_or (number_of word) (BadNumber number)) else on_read Name (ok_or (name_of word) (BadName number))
+    if is_numeral word then on_read Id (ok_or (number_in word) (BadNumber number)) else on_read Name (ok_or (name_of word) (BadName number))

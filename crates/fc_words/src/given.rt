@@ -3,7 +3,7 @@
 ghost use Rattle.std.specs.Prelude.{◌≡◌, MatchResult, IsOk, Some, Err};
 ghost use Rattle.fc_words.specs.Answers.{Leaves};
 ghost use Rattle.fc_words.specs.Values.{on_read};
-ghost use Rattle.fc_words.specs.Given.{no_settings, no_flags, no_operands, nothing_given, set, is_set, raise, is_raised, is_given, is_wanted, take};
+ghost use Rattle.fc_words.specs.Given.{no_settings, no_flags, no_operands, nothing_given, set, has_setting, raise, is_raised, is_given, is_wanted, take};
 
 use crate::grammar::{Flag, LineOption, Operand, Setting};
 use crate::refused::WordRefused;
@@ -136,7 +136,7 @@ impl Settings {
 
     /// Whether the option has its value.
     pub fn has(&self, setting: Setting) -> bool
-        ensures { result ≡ is_set setting self.now }
+        ensures { result ≡ has_setting setting self.now }
     {
         match setting {
             Setting::Name => self.name.is_some(),

@@ -6,7 +6,7 @@ ghost use Rattle.std.specs.Char.{is_digit};
 ghost use Rattle.std.specs.List.{list_all};
 ghost use Rattle.fc_words.specs.Answers.{Answers};
 ghost use Rattle.fc_words.specs.Digits.{pushed};
-ghost use Rattle.fc_words.specs.Values.{is_numeral, number_of, hex_of, byte_of, delim_of, turns_of, unit_of, grain_size_of, preset_of, role_of, name_of, ref_at};
+ghost use Rattle.fc_words.specs.Values.{is_numeral, number_in, hex_of, byte_of, delim_of, turns_of, unit_of, grain_size_of, preset_of, role_of, name_of, ref_at};
 
 use crate::given::RoleWord;
 use crate::refused::WordRefused;
@@ -53,7 +53,7 @@ fn push_digit(value: u32, byte: u8) -> Option<u32>
 
 /// The number of a word of digits. None where it is another word, or the number 2^32 or more.
 fn number(word: &[u8]) -> Option<u32>
-    ensures { result ≡ number_of word.now }
+    ensures { result ≡ number_in word.now }
 {
     if word.is_empty() {
         return None;
@@ -70,7 +70,7 @@ fn number(word: &[u8]) -> Option<u32>
 
 /// A number below 2^32.
 pub(crate) fn read_number(word: &[u8], at: u32) -> Result<u32, WordFault>
-    ensures { result ≡ ok_or (number_of word.now) (WordFault.BadNumber at) }
+    ensures { result ≡ ok_or (number_in word.now) (WordFault.BadNumber at) }
 {
     number(word).ok_or(WordFault::BadNumber(at))
 }
