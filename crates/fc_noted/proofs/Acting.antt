@@ -17,14 +17,15 @@ use Rattle.fc_legal.specs.Steps.{left_by}
 use Rattle.fc_legal.specs.Whole.{Whole}
 use Rattle.fc_meta.proofs.Moments.{started, weaker}
 use Rattle.fc_meta.specs.Answers.{LeavesEither}
-use Rattle.fc_meta.specs.States.{IsResting, found}
+use Rattle.fc_meta.specs.States.{IsResting, disk_of, found}
 use Rattle.fc_meta.specs.declared.meta.Meta.{Meta}
 use Rattle.fc_metadisk.specs.Disk.{LeavesOnly}
 use Rattle.fc_stands.specs.Phase.{IsDone, IsReserved, StandsAt}
 use Rattle.fc_stands.specs.Store.{StandsFor, StoreView}
 use Rattle.fc_stands.proofs.PhaseAll.{lanes_through}
 use Rattle.law_noted.specs.Records.{removed_by}
-use Rattle.fc_noted.specs.Making.{HasActed, HasStayed, IsImageAfter, IsImageAfter.about, IsImageAfter.acted, IsImageOf, IsImageWithout}
+use Rattle.fc_noted.specs.Making.{HasActed, HasStayed, LeavesAnew, IsImageAfter, IsImageAfter.about, IsImageAfter.acted, IsImageOf, IsImageWithout}
+use Rattle.fc_noted.specs.declared.noted.Noted.{Noted}
 
 pub stayed : (old new : StoreView) → IsReserved old new → HasStayed old new
 stayed old new r = record { grain = r.grain; lanes = r.lanes; stands = r.stands }
@@ -57,9 +58,10 @@ pub about_image : (old now : StoreView) (d : Decision) (gone : VolId) (control :
     control ≡ now.control → lanes ≡ now.lanes → image ≡ without gone (meta_of (kept_by_parts control lanes)) → IsImageAfter old d image
 about_image old now d gone control lanes image r e c l is = about now gone (stayed old now r) e (image_without_is now control lanes gone image c l is)
 
-pub acted_image : (old new : StoreView) (d : Decision) (control : ControlState) (lanes : List LaneView) (image : MetaImage) → HasActed d old new → removed_by d.events ≡ None → control ≡ new.control → lanes ≡ new.lanes →
+pub acted_image : (old mid new : StoreView) (d : Decision) (control : ControlState) (lanes : List LaneView) (image : MetaImage) → IsReserved old mid → IsDone d mid new → removed_by d.events ≡ None →
+    control ≡ new.control → lanes ≡ new.lanes →
     (let parts : StoreView = record { control = control; lanes = lanes } in (w : Whole) → StandsFor parts w → image ≡ meta_of (kept_of w (lost_grains lanes w.books.tables.volumes))) → IsImageAfter old d image
-acted_image old new d control lanes image done e c l is = acted new done e (image_is new control lanes image c l is)
+acted_image old mid new d control lanes image r was e c l is = acted new (acted_on old mid mid new d r refl was) e (image_is new control lanes image c l is)
 
 -- a volume that isn't found
 pub none_gone : (o : Option VolId) → ((id : VolId) → o ≡ Some id → ⊥) → o ≡ None
@@ -94,3 +96,13 @@ module _ {D : Type 0} (seen : D → List ℕ) (may_leave : D → List ℕ → Ty
         | inl e ↦ was c e
         | inr e ↦ is c e
       ]) x
+
+  module _ {C : Type 0} (old : Noted C D) (d : Decision) where
+    -- by a decision
+    pub anew_still : (only_now : (disk : D) (c : List ℕ) → left_since disk (moment disk) c → may_leave disk c) → IsResting seen may_leave old.meta →
+        LeavesOnly moment left_since (disk_of old.meta) (disk_of old.meta) (LeavesAnew seen may_leave d old)
+    anew_still only_now rests = still_there only_now old.meta (LeavesAnew seen may_leave d old) rests (λ x e. inl e)
+
+    pub anew_by_image : (new : D) (image : MetaImage) → IsImageAfter old.store d image → LeavesOnly moment left_since (disk_of old.meta) new (LeavesEither (found seen old.meta) (Image image)) →
+        LeavesOnly moment left_since (disk_of old.meta) new (LeavesAnew seen may_leave d old)
+    anew_by_image new image after x = by_image (disk_of old.meta) new (found seen old.meta) image (LeavesAnew seen may_leave d old) (λ x e. inl e) (λ x e. inr (image, e, after)) x

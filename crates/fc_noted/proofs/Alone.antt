@@ -19,38 +19,34 @@ use Rattle.fc_image.specs.declared.record.MetaRecord.{MetaRecord}
 use Rattle.fc_kept.specs.Disks.{NamedDisk}
 use Rattle.fc_kept.specs.Images.{kept_in}
 use Rattle.fc_kept.specs.Kept.{Kept, kept_after}
-use Rattle.fc_kept.specs.Prefix.{AreStepsOf}
 use Rattle.fc_kept.specs.Sound.{IsSoundImage}
 use Rattle.fc_lane.specs.Lane.{LaneView}
 use Rattle.fc_lane.specs.declared.doing.Doing.{Doing}
-use Rattle.fc_legal.specs.Agenda.{Asks}
 use Rattle.fc_legal.specs.Whole.{Whole}
+use Rattle.fc_marks.specs.Meter.{IsMetered, Meter, with_record}
 use Rattle.fc_marks.specs.declared.error.NotedStop.{NotedStop}
 use Rattle.fc_marks.specs.declared.error.NotedStop.TheVariants.{LogFull}
-use Rattle.fc_meta.specs.Answers.{LeavesEither, found_with}
-use Rattle.fc_meta.specs.States.{IsResting, found}
+use Rattle.fc_meta.specs.Answers.{LeavesEither, found_with, more_calls}
+use Rattle.fc_meta.specs.States.{IsResting, found, room_of}
 use Rattle.fc_meta.specs.declared.meta.Meta.{Meta}
 use Rattle.fc_metadisk.specs.Disk.{LeavesOnly}
-use Rattle.fc_noted.proofs.Data.{hand_none, have_still, matches_none, same_ask, since_then}
+use Rattle.fc_noted.proofs.Data.{acted_none, doing_goes, hand_none, have_still, matches_none, same_ask}
 use Rattle.fc_noted.proofs.Fitting.{IsFit, alone_fits}
 use Rattle.fc_noted.proofs.GoingAlong.{matches_along}
 use Rattle.fc_noted.proofs.InHand.{alone_recovered, now_inside, recovered_of}
+use Rattle.fc_noted.proofs.MeteringHand.{moved_so, uncopied_so}
+use Rattle.fc_noted.proofs.MeteringNoted.{goes_into_record, so_far_put}
 use Rattle.fc_noted.proofs.Putting.{by_grain, put_keeps, put_leaves, put_says, recovers_with, recovers_without, way_leaves, way_stopped}
-use Rattle.fc_noted.proofs.Safe.{safe_by}
 use Rattle.fc_noted.proofs.Stepping.{way_goes, way_stops}
-use Rattle.fc_noted.specs.Making.{WayMade, done}
+use Rattle.fc_noted.specs.Making.{CountsInto, WayMade, done}
 use Rattle.fc_noted.specs.Noted.{IsDoing}
 use Rattle.fc_noted.specs.Stopping.{HasStopped, HoldStill, HoldsTheSame, LeavesRecoverable, MayBeRecovered, MoreFailed}
 use Rattle.fc_noted.specs.declared.noted.Noted.{Noted}
 use Rattle.fc_noted.specs.declared.noted.UnderWay.{UnderWay}
-use Rattle.fc_parts.specs.Law.{IsInVolume}
-use Rattle.fc_script.specs.Asking.{Fits}
-use Rattle.fc_script.specs.Script.{agenda_of}
 use Rattle.fc_stands.specs.Store.{StoreView}
 use Rattle.fc_steps.specs.Asking.{request_of}
 use Rattle.fc_steps.specs.Moving.{SameLane}
 use Rattle.fc_steps.specs.UnderWay.{next_of}
-use Rattle.fc_steps.specs.declared.ask.Ask.{Ask}
 use Rattle.fc_steps.specs.declared.body.StepEnd.{StepEnd}
 use Rattle.fc_steps.specs.declared.stepping.Next.TheVariants.{Move as NextMove}
 use Rattle.fc_steps.specs.declared.stop.Stop.{Stop}
@@ -64,9 +60,10 @@ use Rattle.law_noted.proofs.Finding.{stop_law_holds}
 use Rattle.law_noted.proofs.HandNext.{alone}
 use Rattle.law_noted.proofs.HandOn.{put_alone}
 use Rattle.law_noted.proofs.Losing.{uncopied_agree}
+use Rattle.law_noted.proofs.OldOrNew.{safe_by}
 use Rattle.law_noted.specs.Advancing.{HasTorn, uncopied}
 use Rattle.law_noted.specs.Came.{steps_done}
-use Rattle.law_noted.specs.DataSteps.{GoAlong, IsInHand, copies_nothing}
+use Rattle.law_noted.specs.DataSteps.{GoAlong, IsInHand, IsNextStep, copies_nothing}
 use Rattle.law_noted.specs.One.{IsSafe}
 
 -- ---- lanes that hold still
@@ -103,12 +100,20 @@ along_still grain w place k k' old new ds a still =
 module _ {C D : Type 0} (seen : D → List ℕ) (may_leave : D → List ℕ → Type 0) (moment : D → ℕ) (left_since : D → ℕ → List ℕ → Type 0) (counts_now : (disk : D) (t : ℕ) (c : List ℕ) → t ≤ moment disk → may_leave disk c → left_since disk t c)
     (n : Noted C D) (way : UnderWay) (m : Move) (none : way.due ≡ None) (live : n.live ≡ true) (next : next_of way.doing.steps ≡ NextMove m)
     (copies : copies_nothing (lane_in n.store way.place) way.doing.steps.place m ≡ true)
-    (meta : Meta D) (run : LeavesOnly moment left_since n.meta.disk meta.disk (LeavesEither (found seen n.meta) (found_with (found seen n.meta) (uncopied m ∷ [])))) where
+    (meta : Meta D) (calls : ℕ) (counted : (m' : Meter) → IsMetered seen n.meta m' → n.calls ≡ more_calls m'.calls 0 → calls ≡ more_calls (with_record (room_of seen n.meta) (uncopied m) m').calls 0)
+    (run : LeavesOnly moment left_since n.meta.disk meta.disk (LeavesEither (found seen n.meta) (found_with (found seen n.meta) (uncopied m ∷ [])))) where
   abbrev old : Noted C D
   old = record n { under_way = Some way }
 
   abbrev x : MetaRecord
   x = uncopied m
+
+  -- behind an error
+  abbrev left : Noted C D
+  left = record n { meta = meta; calls = calls }
+
+  abbrev Puts : Type 0
+  Puts = (m' : Meter) → IsMetered seen n.meta m' → IsMetered seen meta (with_record (room_of seen n.meta) (uncopied m) m')
 
   module _ (history : HistoryState) (w : Whole) (least : List Row) (d : IsDoing seen may_leave (record n { under_way = Some way }) way history w least) where
     abbrev grain : GrainSize
@@ -140,11 +145,17 @@ module _ {C D : Type 0} (seen : D → List ℕ) (may_leave : D → List ℕ → 
 
     -- ---- an error of the disk of metadata
 
-    alone_stops : HasStopped may_leave old (record n { meta = meta }) w least
-    alone_stops = way_stopped seen may_leave n way history w least d x fit with_it moment left_since counts_now meta n.marks run
+    alone_stops : HasStopped may_leave old left w least
+    alone_stops = way_stopped seen may_leave n way history w least d x fit with_it moment left_since counts_now meta calls n.marks run
 
-    failed_leaves : LeavesOnly moment left_since n.meta.disk meta.disk (LeavesRecoverable old (record n { meta = meta }) w least)
-    failed_leaves = way_leaves seen may_leave n way history w least d x fit with_it moment left_since counts_now meta n.marks run n.under_way
+    failed_leaves : LeavesOnly moment left_since n.meta.disk meta.disk (LeavesRecoverable old left w least)
+    failed_leaves = way_leaves seen may_leave n way history w least d x fit with_it moment left_since counts_now meta calls n.marks run n.under_way
+
+    -- what is asked for goes so far into metadata
+    alone_into : CountsInto seen old left history w
+    alone_into =
+        let a = uncopied_so grain w least way.place way.doing begun now d.steps d.before d.point hand d.counts.actions (acted_none seen may_leave old way history w least d none) m next copies in
+        goes_into_record seen may_leave old left way history w least d x (steps_done way.doing.steps + 1) None None a.so_far counted
 
     -- ---- the move is made
 
@@ -152,10 +163,12 @@ module _ {C D : Type 0} (seen : D → List ℕ) (may_leave : D → List ℕ → 
       abbrev then : LaneView
       then = lane_in store way.place
 
+      is_next : IsNextStep way.doing (lane_in n.store way.place) end doing (lane_in store way.place)
+      is_next = record { way = step.way; after = step.after; moved = step.moved; wrote = step.wrote }
+
       moved : IsInHand d.begun.control.grain w least way.place doing (lane_in d.begun way.place) (lane_in store way.place) d.steps d.before None (noted (uncopied m) d.point)
           × GoAlong d.begun.control.grain w way.place d.point.kept (kept_after d.point.kept (uncopied m)) (lane_in n.store way.place).grains (lane_in store way.place).grains d.point.disks d.point.disks
-      moved =
-          moved_alone grain w least way.place way.doing begun now d.steps d.before d.point m end doing then hand next copies (record { way = step.way; after = step.after; moved = step.moved; wrote = step.wrote })
+      moved = moved_alone grain w least way.place way.doing begun now d.steps d.before d.point m end doing then hand next copies is_next
 
       ask_is : doing.steps.ask ≡ way.doing.steps.ask
       ask_is = ap (λ (z : Doing). z.steps.ask) step.after ∙ same_ask (next_of way.doing.steps) end way.doing.steps
@@ -212,7 +225,7 @@ module _ {C D : Type 0} (seen : D → List ℕ) (may_leave : D → List ℕ → 
       way_new = record { place = way.place; doing = doing; due = None }
 
       abbrev new : Noted C D
-      new = record n { store = store; meta = meta; under_way = Some (record { place = way.place; doing = doing; due = None }) }
+      new = record n { store = store; meta = meta; calls = calls; under_way = Some (record { place = way.place; doing = doing; due = None }) }
 
       alone_leaves : LeavesOnly moment left_since n.meta.disk meta.disk (LeavesRecoverable old new w least)
       alone_leaves =
@@ -223,39 +236,33 @@ module _ {C D : Type 0} (seen : D → List ℕ) (may_leave : D → List ℕ → 
             | inr e ↦ subst (λ (ls : List LaneView). Recovers ls d.keeps.image × Recovers ls (after_record d.keeps.image x)) (sym e.0) (still_without e.1, still_with e.1)
           ])
 
-      alone_doing : IsResting seen may_leave meta → found seen meta ≡ found_with (found seen n.meta) (uncopied m ∷ []) → IsDoing seen may_leave new way_new history w least
-      alone_doing rests says =
-          record {
-            begun = d.begun;
-            few = d.few;
-            told = d.told;
-            inside = d.inside;
-            since = since_then d.begun n.store store way.place d.since is;
-            fits = subst (λ (s : StoreView). Fits s.control.grain s.control.tables n.script) (sym is) d.fits;
-            under = moved.0.under;
-            number = ap (λ (z : Doing). z.number) step.after ∙ d.number;
-            by_main = ap (λ (z : Doing). z.actor) step.after ∙ d.by_main;
-            asked = subst (λ (a : Ask). Asks grain (agenda_of grain n.script) w (0, request_of a)) (sym ask_is) d.asked;
-            steps = d.steps;
-            in_volume = subst (λ (a : Ask). IsInVolume grain w (request_of a)) (sym ask_is) d.in_volume;
-            steps_are = subst (λ (a : Ask). AreStepsOf grain w (request_of a) d.steps) (sym ask_is) d.steps_are;
-            before = d.before;
-            run = d.run;
-            point = noted x d.point;
-            came = moved.0.came;
-            keeps = put_keeps seen may_leave grain old new w way.due d.point x d.keeps fit rests says refl d.keeps.rows
-                (have_still n.disks n.store store way.place inside is (stay_new.ids ∙ sym stay_old.ids) (stay_new.disks ∙ sym stay_old.disks) d.keeps.volumes)
-                (matches_by (kept_after d.point.kept x) moved.1);
-          }
+      alone_doing : IsResting seen may_leave meta → found seen meta ≡ found_with (found seen n.meta) (uncopied m ∷ []) → room_of seen meta ≡ room_of seen n.meta → Puts → IsDoing seen may_leave new way_new history w least
+      alone_doing rests says size metered =
+          doing_goes seen may_leave old way history w least d new doing None (noted x d.point) is refl (ap (λ (z : Doing). z.number) step.after) (ap (λ (z : Doing). z.actor) step.after) ask_is moved.0
+          (put_keeps seen may_leave grain old new w way.due d.point x d.keeps fit rests says refl d.keeps.rows
+          (have_still n.disks n.store store way.place inside is (stay_new.ids ∙ sym stay_old.ids) (stay_new.disks ∙ sym stay_old.disks) d.keeps.volumes)
+          (matches_by (kept_after d.point.kept x) moved.1))
+          (so_far_put seen may_leave grain old new way way_new history.entries w d.steps d.before.kept.rows d.point.kept.rows (noted x d.point).kept.rows d.counts x
+          (moved_so grain w least way.place way.doing begun now d.steps d.before d.point hand d.counts.actions (acted_none seen may_leave old way history w least d none) m end doing then next copies is_next) size metered counted)
 
   pub alone_made : (end : StepEnd) (doing : Doing) (store : StoreView) (step : IsStepOf way.doing (lane_in n.store way.place) end doing (lane_in store way.place)) (is : IsInLane way.place n.store store) → IsResting seen may_leave meta →
-      found seen meta ≡ found_with (found seen n.meta) (uncopied m ∷ []) → (history : HistoryState) →
-      WayMade seen may_leave moment left_since done n way (record n { store = store; meta = meta; under_way = Some (record { place = way.place; doing = doing; due = None }) }) history history
-  alone_made end doing store step is rests says =
+      found seen meta ≡ found_with (found seen n.meta) (uncopied m ∷ []) → room_of seen meta ≡ room_of seen n.meta → Puts → (history : HistoryState) →
+      WayMade seen may_leave moment left_since done n way (record n { store = store; meta = meta; calls = calls; under_way = Some (record { place = way.place; doing = doing; due = None }) }) history history
+  alone_made end doing store step is rests says size metered =
       let next_way : UnderWay = record { place = way.place; doing = doing; due = None } in
-      way_goes seen may_leave moment left_since n (record n { store = store; meta = meta; under_way = Some next_way }) way (λ history w least d. alone_leaves history w least d end doing store step is) next_way live
-      (ap (λ (s : StoreView). s.control.grain) is) refl refl (λ history w least d. alone_doing history w least d end doing store step is rests says)
+      way_goes seen may_leave moment left_since n (record n { store = store; meta = meta; calls = calls; under_way = Some next_way }) way (λ history w least d. alone_leaves history w least d end doing store step is) next_way live
+      (ap (λ (s : StoreView). s.control.grain) is) refl refl (λ history w least d. alone_doing history w least d end doing store step is rests says size metered)
+
+  -- by the noted store behind the record
+  pub alone_made_by : (mid : Noted C D) → mid ≡ record n { meta = meta; calls = calls } → (end : StepEnd) (doing : Doing) (store : StoreView) → IsStepOf way.doing (lane_in mid.store way.place) end doing (lane_in store way.place) →
+      IsInLane way.place mid.store store → IsResting seen may_leave meta → found seen meta ≡ found_with (found seen n.meta) (uncopied m ∷ []) → room_of seen meta ≡ room_of seen n.meta → Puts → (history : HistoryState) →
+      WayMade seen may_leave moment left_since done n way (record mid { store = store; under_way = Some (record { place = way.place; doing = doing; due = None }) }) history history
+  alone_made_by mid e end doing store step is rests says size metered history =
+      let Makes : Noted C D → Type 0 = λ (z : Noted C D).
+      IsStepOf way.doing (lane_in z.store way.place) end doing (lane_in store way.place) → IsInLane way.place z.store store →
+      WayMade seen may_leave moment left_since done n way (record z { store = store; under_way = Some (record { place = way.place; doing = doing; due = None }) }) history history in
+      subst Makes (sym e) (λ step' is'. alone_made end doing store step' is' rests says size metered history) step is
 
   pub alone_failed : (result : Result (Unit {0}) NotedStop) (given stop : NotedStop) → result ≡ Err given → given ≡ stop → (stop ≡ LogFull → ⊥) → (history : HistoryState) →
-      WayMade seen may_leave moment left_since result n way (record n { meta = meta }) history history
-  alone_failed result given stop e same other = way_stops seen may_leave moment left_since n (record n { meta = meta }) way failed_leaves result given stop e same other alone_stops
+      WayMade seen may_leave moment left_since result n way left history history
+  alone_failed result given stop e same other = way_stops seen may_leave moment left_since n left way failed_leaves result given stop e same other alone_stops (λ history w least d is. alone_into history w least d)

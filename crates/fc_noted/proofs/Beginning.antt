@@ -2,8 +2,6 @@
 use Rattle.std.proofs.Common.{◌≡◌, ℕ, ◌<◌, false, Option, Some, List, refl, sym, ap, subst, ◌∙◌}
 use Rattle.fc_base.specs.declared.size.GrainSize.{GrainSize}
 use Rattle.fc_base.specs.declared.state.Access.TheVariants.{Online}
-use Rattle.fc_base.specs.declared.state.Access.{Access}
-use Rattle.fc_entry.specs.Picture.{grain_of_block}
 use Rattle.fc_kept.specs.Prefix.{AreFillSteps, AreStepsOf, AreWriteSteps}
 use Rattle.fc_lane.specs.Doing.{CanWrite, FitsAsk, HasCome, IsUnderWay}
 use Rattle.fc_lane.specs.Lane.{IsLaneOf, LaneView, of}
@@ -12,11 +10,11 @@ use Rattle.fc_legal.specs.Whole.{Whole, as_one, lane_at, lanes, part_at}
 use Rattle.fc_parts.proofs.Decisions.{part_follows}
 use Rattle.fc_parts.proofs.Numbers.{IsOf}
 use Rattle.fc_rules.specs.GrainAnswers.{cannot_write}
-use Rattle.fc_rules.specs.LaneTold.{LaneOf, LaneTold, LaneVolume, lane_access}
+use Rattle.fc_rules.specs.LaneTold.{LaneOf, LaneVolume, lane_access}
 use Rattle.fc_rules.specs.Spot.{Spot}
 use Rattle.fc_rules.specs.Steps.{DiskStep, steps_of_fill, steps_of_write}
 use Rattle.fc_steps.specs.Asking.{request_of}
-use Rattle.fc_steps.specs.UnderWay.{AreAsked, AreUnderWay, CanOwn, grain_asked, slot_asked, spot_asked, steps_asked}
+use Rattle.fc_steps.specs.UnderWay.{AreUnderWay, CanOwn, grain_asked, slot_asked, steps_asked}
 use Rattle.fc_steps.specs.declared.ask.Ask.{Ask}
 use Rattle.fc_steps.specs.declared.ask.Ask.TheVariants.{Write, Copy, Clean}
 use Rattle.law_crash.proofs.Making.{spot_in}

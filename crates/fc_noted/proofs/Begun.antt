@@ -1,6 +1,5 @@
 -- An entry begins in its lane, and is under way.
-use Rattle.std.proofs.Common.{◌≡◌, ℕ, ◌<◌, ◌≤◌, Bool, true, Option, Some, None, List, length, Ok, Err, refl, sym, ap, subst, ◌∙◌, inl, arith}
-use Rattle.std.specs.Prelude.{IsErrOf}
+use Rattle.std.proofs.Common.{◌≡◌, ℕ, ◌<◌, ◌≤◌, true, Option, Some, None, List, [], length, Ok, Err, refl, sym, ap, subst, ◌∙◌, inl, arith}
 use Rattle.fc_agenda.specs.Goes.{stays}
 use Rattle.fc_base.specs.declared.size.GrainSize.{GrainSize}
 use Rattle.fc_changed.specs.Row.{Row}
@@ -13,14 +12,22 @@ use Rattle.fc_lane.specs.Lane.{LaneView, of}
 use Rattle.fc_lane.specs.declared.doing.Doing.{Doing}
 use Rattle.fc_legal.specs.Agenda.{Asks}
 use Rattle.fc_legal.specs.Whole.{Whole, lane_at, lanes}
-use Rattle.fc_marks.specs.declared.error.NotedStop.TheVariants.{LogFull}
+use Rattle.fc_image.specs.declared.image.MetaImage.{MetaImage}
+use Rattle.fc_kept.specs.Images.{kept_in}
+use Rattle.fc_kept.specs.Kept.{Kept}
+use Rattle.fc_marks.specs.declared.error.NotedStop.TheVariants.{LogFull, MetaFailed}
+use Rattle.fc_meta.specs.States.{found}
+use Rattle.fc_noted.specs.Metered.{Acted}
 use Rattle.fc_marks.specs.declared.error.NotedStop.{NotedStop}
 use Rattle.fc_noted.proofs.Beginning.{begun_steps, begun_steps_are}
+use Rattle.fc_noted.proofs.CallsMade.{counts_still, one_image}
 use Rattle.fc_noted.proofs.Counting.{has_counted}
 use Rattle.fc_noted.proofs.Holding.{HoldSame, have_same, match_same, one_same}
+use Rattle.fc_noted.proofs.Metering.{begun_so}
 use Rattle.fc_noted.proofs.Moments.{doing_found, hold_either, resting_found, still_leaves}
+use Rattle.fc_noted.proofs.Stepping.{same_stop}
 use Rattle.fc_noted.specs.Making.{StepMade}
-use Rattle.fc_noted.specs.Noted.{IsAt, IsAtBy, IsDoing, IsNotedAt}
+use Rattle.fc_noted.specs.Noted.{CanBegin, IsAt, IsAtBy, IsDoing, IsNotedAt}
 use Rattle.fc_noted.specs.Stopping.{MayBeRecovered}
 use Rattle.fc_noted.specs.declared.noted.Noted.{Noted}
 use Rattle.fc_noted.specs.declared.noted.UnderWay.{UnderWay}
@@ -32,8 +39,10 @@ use Rattle.fc_stands.specs.Store.{IsLaneAt, StandsFor, StoreView}
 use Rattle.fc_steps.specs.Asking.{request_of}
 use Rattle.fc_steps.specs.declared.ask.Ask.{Ask}
 use Rattle.fc_steps.specs.declared.stepping.Steps.{Steps}
+use Rattle.fc_store.specs.Ready.{IsRoomier}
 use Rattle.fc_store.specs.Stepping.{IsInLane, lane_in, no_lane}
 use Rattle.law_noted.proofs.HandOn.{begins, first}
+use Rattle.law_noted.specs.Came.{steps_done}
 use Rattle.law_noted.specs.DataSteps.{IsInHand}
 use Rattle.law_noted.specs.Runs.{HasRun}
 
@@ -65,6 +74,7 @@ module _ {C D : Type 0} (seen : D → List ℕ) (may_leave : D → List ℕ → 
           volumes = have_same n.disks n.store store control same k.volumes;
           matches = subst (λ (g : GrainSize). MatchAll g n.named at.point.kept store.lanes at.point.disks) (sym there) (match_same n.store.lanes store.lanes same grain n.named at.point.kept at.point.disks k.matches);
         };
+        counts = counts_still seen may_leave n (record n { store = store }) history.entries w control refl refl at.counts;
       }
 
   -- what a step meets between two entries
@@ -123,6 +133,11 @@ module _ {C D : Type 0} (seen : D → List ℕ) (may_leave : D → List ℕ → 
           (begins grain history.entries w least at.point (request_of doing.steps.ask) steps at.run (omega (arith, few)) in_volume_here are) at.run.have below lane_is lane_at_place.stands.lane
           (subst (λ (a : Ask). HasBegun lane number 0 a doing (lane_in store place)) (sym ask_is) begun)
 
+      -- no action was done yet
+      none_acted : Acted grain (request_of doing.steps.ask) steps (steps_done doing.steps) doing.steps.stop None at.point.kept.rows at.point.kept.rows []
+      none_acted =
+          subst (λ (s : Steps). Acted grain (request_of s.ask) steps (steps_done s) s.stop None at.point.kept.rows at.point.kept.rows []) (sym begun.steps_are) (begun_so grain (request_of ask) steps at.point.kept.rows)
+
       pub begun_doing : IsDoing seen may_leave new way history w least
       begun_doing =
           let k = at.keeps in
@@ -156,44 +171,55 @@ module _ {C D : Type 0} (seen : D → List ℕ) (may_leave : D → List ℕ → 
               volumes = have_same n.disks n.store store (ap (λ (s : StoreView). s.control) is) holds k.volumes;
               matches = match_same n.store.lanes store.lanes holds grain n.named at.point.kept at.point.disks k.matches;
             };
+            counts =
+                let c = at.counts in
+                let same : c.meter.image ≡ k.image = one_image (found seen n.meta) c.meter.image k.image c.is.image k.says in
+                record {
+                  before = c.meter;
+                  metered = c.metered;
+                  same = ap (λ (i : MetaImage). (kept_in i).rows) same ∙ ap (λ (z : Kept). z.rows) k.kept;
+                  actions = [];
+                  acted = none_acted;
+                  is = c.is;
+                  calls = c.calls;
+                };
           }
 
 -- what that makes of a noted store in which room was made
 module _ {C D : Type 0} (seen : D → List ℕ) (may_leave : D → List ℕ → Type 0) (moment : D → ℕ) (left_since : D → ℕ → List ℕ → Type 0) (only_now : (disk : D) (c : List ℕ) → left_since disk (moment disk) c → may_leave disk c)
-    (old : Noted C D) (history : HistoryState) (roomy : StoreView) (control : roomy.control ≡ old.store.control) (same : HoldSame old.store.lanes roomy.lanes) (stands : (w : Whole) → StandsFor old.store w → StandsFor roomy w)
-    (idle : old.under_way ≡ None) (live : old.live ≡ true) (room : length history.entries ≤ 262144) where
+    (old : Noted C D) (history : HistoryState) (begins : CanBegin seen may_leave old history) (roomy : StoreView) (kept : IsRoomier old.store roomy) where
   abbrev n : Noted C D
   n = record old { store = roomy }
 
   at_roomy : (w : Whole) (least : List Row) → IsAt seen may_leave old history w least → IsNotedAt seen may_leave (record old { store = roomy }) history w least
-  at_roomy w least at = roomy_at seen may_leave old roomy history w least control same stands (at_rest seen may_leave old history w least idle at)
+  at_roomy w least at = roomy_at seen may_leave old roomy history w least kept.control kept.grains kept.stands (at_rest seen may_leave old history w least begins.at.idle at)
 
   few_told : (w : Whole) (least : List Row) → IsAt seen may_leave old history w least → w.entries ≤ 262144
   few_told w least at =
-      let h = at_rest seen may_leave old history w least idle at in
-      subst (λ (k : ℕ). k ≤ 262144) (sym h.told.1.entries) room
+      let h = at_rest seen may_leave old history w least begins.at.idle at in
+      subst (λ (k : ℕ). k ≤ 262144) (sym h.told.1.entries) begins.room
 
   -- what stood may be recovered with what its lanes give back
   found_before : (w : Whole) (least : List Row) (at : IsAt seen may_leave old history w least) → MayBeRecovered old.store.control.grain old.script old.named old.store.lanes w least (at_roomy w least at).keeps.image
   unfolding at_roomy roomy_at
-  found_before w least at = resting_found seen may_leave old history w least (at_rest seen may_leave old history w least idle at) (few_told w least at)
+  found_before w least at = resting_found seen may_leave old history w least (at_rest seen may_leave old history w least begins.at.idle at) (few_told w least at)
 
   found_roomy : (w : Whole) (least : List Row) (at : IsAt seen may_leave old history w least) → MayBeRecovered old.store.control.grain old.script old.named roomy.lanes w least (at_roomy w least at).keeps.image
   found_roomy w least at =
-      subst (λ c. MayBeRecovered c.grain old.script old.named roomy.lanes w least (at_roomy w least at).keeps.image) control
+      subst (λ c. MayBeRecovered c.grain old.script old.named roomy.lanes w least (at_roomy w least at).keeps.image) kept.control
       (resting_found seen may_leave n history w least (at_roomy w least at) (few_told w least at))
 
   -- ---- it stopped there
 
-  pub stopped_made : (stop : NotedStop) → (stop ≡ LogFull → 262144 ≤ length history.entries) → StepMade seen may_leave moment left_since (Err stop) old (record old { store = roomy }) history history
-  stopped_made stop full =
+  pub stopped_made : (stop : NotedStop) → (stop ≡ LogFull → 262144 ≤ length history.entries) → (stop ≡ MetaFailed → ⊥) → StepMade seen may_leave moment left_since (Err stop) old (record old { store = roomy }) history history
+  stopped_made stop full never =
       record {
         on = tt;
         any_moment = λ w least at.
             let k = (at_roomy w least at).keeps in
             still_leaves seen may_leave moment left_since only_now old n w least k.image refl k.says k.rests.durable
-            (hold_either old.store roomy old.script old.named w least k.image (ap (λ c. c.grain) control) (found_before w least at)
-            (subst (λ c. MayBeRecovered c.grain old.script old.named roomy.lanes w least k.image) (sym control) (found_roomy w least at)));
+            (hold_either old.store roomy old.script old.named w least k.image (ap (λ c. c.grain) kept.control) (found_before w least at)
+            (subst (λ c. MayBeRecovered c.grain old.script old.named roomy.lanes w least k.image) (sym kept.control) (found_roomy w least at)));
         stopped = λ w least at.
             let h = at_roomy w least at in
             let k = h.keeps in (
@@ -204,11 +230,9 @@ module _ {C D : Type 0} (seen : D → List ℕ) (may_leave : D → List ℕ → 
                 leaves = λ c may. (k.image, ap recovered (k.rests.durable c may) ∙ k.says, found_roomy w least at);
               },
             );
-        full = λ e. full (err_is stop e);
+        full = λ e. full (same_stop stop e);
+        into = λ e. absurd (never (same_stop stop e));
       }
-    where
-      err_is : (s : NotedStop) → IsErrOf {T = Bool} (Err s) LogFull → s ≡ LogFull
-      err_is s e = cc
 
   -- ---- an entry is under way
 
@@ -220,22 +244,23 @@ module _ {C D : Type 0} (seen : D → List ℕ) (may_leave : D → List ℕ → 
 
     doing_at : (w : Whole) (least : List Row) → IsAt seen may_leave old history w least → IsDoing seen may_leave behind (record { place = place; doing = doing; due = None }) history w least
     doing_at w least at =
-        let told : StandsFor old.store w = (at_rest seen may_leave old history w least idle at).told.0 in
+        let told : StandsFor old.store w = (at_rest seen may_leave old history w least begins.at.idle at).told.0 in
         begun_doing seen may_leave n history more place number inside ask doing store begun numbered is w least (at_roomy w least at)
-        (subst (λ c. Asks c.grain (agenda_of c.grain old.script) w (0, request_of ask)) (sym control) (asks w told))
-        (subst (λ c. IsInVolume c.grain w (request_of ask)) (sym control) (in_volume w told))
+        (subst (λ c. Asks c.grain (agenda_of c.grain old.script) w (0, request_of ask)) (sym kept.control) (asks w told))
+        (subst (λ c. IsInVolume c.grain w (request_of ask)) (sym kept.control) (in_volume w told))
 
     pub begun_made : StepMade seen may_leave moment left_since (Ok true) old behind history history
     unfolding doing_at begun_doing
     begun_made =
         record {
           on = λ w least at.
-              inl (record { same = refl; live = live; grain = ap (λ (s : StoreView). s.control.grain) is ∙ ap (λ c. c.grain) control; at = doing_at w least at; goes = λ read. stays });
+              inl (record { same = refl; live = begins.live; grain = ap (λ (s : StoreView). s.control.grain) is ∙ ap (λ c. c.grain) kept.control; at = doing_at w least at; goes = λ read. stays });
           any_moment = λ w least at.
               let k = (at_roomy w least at).keeps in
               still_leaves seen may_leave moment left_since only_now old behind w least k.image refl k.says k.rests.durable
-              (hold_either old.store store old.script old.named w least k.image (ap (λ (s : StoreView). s.control.grain) is ∙ ap (λ c. c.grain) control) (found_before w least at)
+              (hold_either old.store store old.script old.named w least k.image (ap (λ (s : StoreView). s.control.grain) is ∙ ap (λ c. c.grain) kept.control) (found_before w least at)
               (doing_found seen may_leave behind (record { place = place; doing = doing; due = None }) history w least (doing_at w least at)));
           stopped = tt;
           full = λ f. absurd cc;
+          into = λ f. absurd cc;
         }

@@ -1,5 +1,5 @@
 -- A command that is settled, decided and done by a noted store: what it needs and what it leaves, at each of its ends.
-use Rattle.std.proofs.Common.{◌≡◌, ℕ, ◌+◌, ◌<◌, ◌≤◌, ◌||◌, List, [], ◌∷◌, ◌++◌, length, sym, ap, subst, ◌∙◌, inl, inr, arith, is_some}
+use Rattle.std.proofs.Common.{◌≡◌, ℕ, ◌+◌, ◌<◌, ◌≤◌, ◌||◌, true, List, [], ◌∷◌, ◌++◌, length, sym, ap, subst, ◌∙◌, inl, inr, arith, is_some}
 use Rattle.fc_base.specs.declared.command.Command.{Command}
 use Rattle.fc_base.specs.declared.decision.Decision.{Decision}
 use Rattle.fc_base.specs.declared.request.Place.TheVariants.{Every}
@@ -17,6 +17,8 @@ use Rattle.fc_lanes.specs.AllLanes.{EachLane}
 use Rattle.fc_legal.specs.Agenda.{Asks}
 use Rattle.fc_legal.specs.Steps.{Step, after_settling}
 use Rattle.fc_legal.specs.Whole.{Whole}
+use Rattle.fc_meta.specs.Answers.{more_calls}
+use Rattle.fc_meta.specs.States.{room_of}
 use Rattle.fc_metadisk.specs.Disk.{LeavesOnly}
 use Rattle.fc_script.specs.Script.{agenda_of}
 use Rattle.fc_stands.specs.Apart.{entry_apart}
@@ -28,12 +30,13 @@ use Rattle.fc_stands.proofs.Frames.{all_go_on}
 use Rattle.fc_stands.proofs.PhaseStands.{stands_at}
 use Rattle.law_noted.specs.Records.{removed_by}
 use Rattle.law_commanded.specs.Law.{AreLanesIn, CommandedLaw, HasCome, left_behind}
+use Rattle.fc_noted.proofs.CommandCosts.{acts, counts_into}
 use Rattle.fc_noted.proofs.CommandLanes.{have_volumes}
 use Rattle.fc_noted.proofs.CommandLeads.{Behind, leads_on, stands_behind, stops_behind}
 use Rattle.fc_noted.proofs.CommandStops.{anew_leaves, anew_stops, stayed_leaves, stayed_stops}
 use Rattle.fc_noted.proofs.Planned.{IsPlanned, becoming, entry_of, in_acted, in_acted_still, in_settled, in_stayed, in_unsettled, planned, same_lanes, stands_left}
 use Rattle.fc_noted.proofs.Standing.{has_come}
-use Rattle.fc_noted.specs.Making.{AnewOr, HasActed, HasStayed, IsHeldAt, IsImageAfter, LeavesAnew, MayHaveActed}
+use Rattle.fc_noted.specs.Making.{AnewOr, CountsInto, HasActed, HasStayed, IsHeldAt, IsImageAfter, LeavesAnew, MayHaveActed}
 use Rattle.fc_noted.specs.Noted.{IsNotedAt}
 use Rattle.fc_noted.specs.Stopping.{HasStopped, HoldStill, LeavesRecoverable}
 use Rattle.fc_noted.specs.declared.noted.Noted.{Noted}
@@ -125,7 +128,7 @@ module _ {C D : Type 0} (seen : D → List ℕ) (may_leave : D → List ℕ → 
       good_anew image x =
           (becoming law old.store.control.grain history.entries w least command old.store.lanes at.point come few_told decisions mid.store settling decision plan sames image x).good
 
-      module _ (new : Noted C D) (others_new : new ≡ record mid { store = new.store; meta = new.meta; named = new.named; marks = new.marks }) where
+      module _ (new : Noted C D) (others_new : new ≡ record mid { store = new.store; meta = new.meta; named = new.named; marks = new.marks; calls = new.calls }) where
         disks_are : new.disks ≡ old.disks
         disks_are = ap (λ (x : Noted C D). x.disks) others_new ∙ ap (λ (x : Noted C D). x.disks) others
 
@@ -151,6 +154,12 @@ module _ {C D : Type 0} (seen : D → List ℕ) (may_leave : D → List ℕ → 
             volumes_by (left_behind old.store.control.grain w command plan.loop) (decisions + 1 + 1)
             (stands_left law old.store.control.grain history.entries w least command old.store.lanes at.point come few_told decisions mid.store settling decision plan sames new.store done)
             (same_lanes law old.store.control.grain history.entries w least command old.store.lanes at.point come few_told decisions mid.store settling decision plan sames new.store done)
+
+        -- the disk of metadata failed while it was made anew
+        pub failed_into : ((has_effect settling || has_effect decision) || is_some (removed_by decision.events)) ≡ true → new.calls ≡ more_calls 6 mid.calls → CountsInto seen old new history w
+        failed_into e called =
+            counts_into seen may_leave old new history w least at command (asks w at.told.0) (acts old.store.control.grain w command decisions mid.store settling decision plan (settles decisions w few_then stood).0 e)
+            (called ∙ ap (λ (x : Noted C D). more_calls 6 x.calls) others)
 
         -- ---- at each moment
 
@@ -197,10 +206,12 @@ module _ {C D : Type 0} (seen : D → List ℕ) (may_leave : D → List ℕ → 
 
         -- ---- behind it
 
-        module _ (done : HasActed decision mid.store new.store) (anew : AnewOr seen may_leave ((has_effect settling || has_effect decision) || is_some (removed_by decision.events)) decision mid new) where
+        module _ (done : HasActed decision mid.store new.store) (room_is : room_of seen new.meta ≡ room_of seen mid.meta)
+            (anew : AnewOr seen may_leave ((has_effect settling || has_effect decision) || is_some (removed_by decision.events)) decision mid new) where
           behind : Behind seen may_leave law old command history w least at few_told decisions mid.store settling decision plan sames new done
           behind =
               stands_behind seen may_leave law old command history w least at few_told decisions mid.store settling decision plan sames new done (settles decisions w few_then stood).0
+              (room_is ∙ ap (room_of seen) meta_is)
               (subst (λ (x : Noted C D). AnewOr seen may_leave ((has_effect settling || has_effect decision) || is_some (removed_by decision.events)) decision x new) others anew)
 
           pub done_stops : HasStopped may_leave old new w least

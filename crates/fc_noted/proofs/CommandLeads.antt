@@ -27,8 +27,10 @@ use Rattle.fc_legal.specs.Agenda.{Asks}
 use Rattle.fc_legal.specs.Steps.{Step, one_more}
 use Rattle.fc_legal.specs.Whole.{Whole}
 use Rattle.fc_marks.specs.Marks.{marked}
+use Rattle.fc_marks.specs.Meter.{IsMetered, Meter, with_fold}
 use Rattle.fc_marks.specs.declared.marks.Mark.{Mark}
-use Rattle.fc_meta.specs.States.{IsResting, found}
+use Rattle.fc_meta.specs.Answers.{more_calls}
+use Rattle.fc_meta.specs.States.{IsResting, found, room_of}
 use Rattle.fc_meta.specs.declared.meta.Meta.{Meta}
 use Rattle.fc_script.specs.Script.{agenda_of}
 use Rattle.fc_stands.specs.Store.{StoreView}
@@ -38,20 +40,23 @@ use Rattle.law_crash.proofs.Whole.{crash_law_holds}
 use Rattle.law_crash.specs.Points.{Point}
 use Rattle.law_noted.specs.Records.{removed_by}
 use Rattle.law_noted.specs.Runs.{HasRun}
+use Rattle.law_commanded.proofs.Anew.{anew_is}
 use Rattle.law_commanded.proofs.Leaving.{from_run}
 use Rattle.law_commanded.specs.Law.{CommandedLaw, HasCome, decision_on, least_behind, left_behind}
 use Rattle.fc_noted.proofs.Commanding.{BecomesAnew, same_disks, stands_for}
+use Rattle.fc_noted.proofs.CommandCosts.{acts, acts_not, calls_more}
 use Rattle.fc_noted.proofs.Counting.{counted_as}
 use Rattle.fc_noted.proofs.Planned.{IsPlanned, becoming, entry_of, have_left, same_lanes, stands_left}
 use Rattle.fc_noted.proofs.Safe.{as_it_was}
 use Rattle.fc_noted.proofs.Standing.{has_come}
 use Rattle.fc_noted.specs.Making.{AnewOr, HasActed, IsHeldAt}
+use Rattle.fc_noted.specs.Metered.{CommandActs, Metered, Metered.anew, Metered.unchanged}
 use Rattle.fc_noted.specs.Noted.{IsNotedAt}
 use Rattle.fc_noted.specs.Stopping.{HasStopped, MayBeRecovered, MoreFailed}
 use Rattle.fc_noted.specs.declared.noted.Noted.{Noted}
 
 -- Metadata behind a command: it stands for what the history leads to with the entry, and so do the disks.
-pub record IsBehind {D : Type 0} (seen : D → List ℕ) (may_leave : D → List ℕ → Type 0) (grain : GrainSize) (entries : List Entry) (next : Whole) (least_next : List Row) (lanes : List LaneView) (meta : Meta D) (named : ℕ) (marks : List Mark)
+pub record IsBehind {D : Type 0} (seen : D → List ℕ) (may_leave : D → List ℕ → Type 0) (grain : GrainSize) (entries : List Entry) (next : Whole) (least_next : List Row) (lanes : List LaneView) (meta : Meta D) (named : ℕ) (marks : List Mark) (calls : ℕ)
     : Type 0 where
   pub point : Point
   pub come : HasCome grain entries next least_next lanes point
@@ -63,6 +68,10 @@ pub record IsBehind {D : Type 0} (seen : D → List ℕ) (may_leave : D → List
   pub kept : kept_in image ≡ point.kept
   pub rows : point.kept.rows ≡ marked marks next.rows
   pub is_named : named ≡ next.books.next_volume
+  pub meter : Meter
+  pub metered : Metered grain (room_of seen meta) entries next meter
+  pub measures : IsMetered seen meta meter
+  pub counted : calls ≡ more_calls meter.calls 0
 
 neither : (a b c : Bool) → ((a || b) || c) ≡ false → (a || b) ≡ false
 neither true b c e = e
@@ -92,7 +101,7 @@ module _ {C D : Type 0} (seen : D → List ℕ) (may_leave : D → List ℕ → 
 
   abbrev pub Behind : Type 0
   Behind = IsBehind seen may_leave old.store.control.grain (history.entries ++ entry_of w command settling decision ∷ []) (one_more (left_behind old.store.control.grain w command plan.loop))
-      (least_behind old.store.control.grain w least command plan.loop) new.store.lanes new.meta new.named new.marks.items
+      (least_behind old.store.control.grain w least command plan.loop) new.store.lanes new.meta new.named new.marks.items new.calls
 
   lanes_same : EachLane IsSameLane old.store.lanes new.store.lanes
   lanes_same = same_lanes law g history.entries w least command old.store.lanes p come few decisions s settling decision plan sames new.store done
@@ -102,8 +111,8 @@ module _ {C D : Type 0} (seen : D → List ℕ) (may_leave : D → List ℕ → 
   abbrev mid : Noted C D
   mid = record old { store = s }
 
-  made_anew : AnewOr seen may_leave true decision mid new → Behind
-  made_anew x =
+  made_anew : CommandActs old.store.control.grain w command (Fold ∷ []) → room_of seen new.meta ≡ room_of seen old.meta → AnewOr seen may_leave true decision mid new → Behind
+  made_anew acts room x =
       let b : BecomesAnew g w least command plan.loop x.image = becoming law g history.entries w least command old.store.lanes p come few decisions s settling decision plan sames x.image x.after in
       let q = law.anew g history.entries w least command plan.loop entry old.store.lanes new.store.lanes p (kept_in x.image) come few plan.commanded b.anew
       (have_left law g history.entries w least command old.store.lanes p come few decisions s settling decision plan sames new.store done) (same_disks old.store.lanes new.store.lanes lanes_same) in
@@ -118,10 +127,16 @@ module _ {C D : Type 0} (seen : D → List ℕ) (may_leave : D → List ℕ → 
         kept = sym q.1;
         rows = ap (λ (k : Kept). k.rows) (q.1 ∙ b.anew.kept_is) ∙ ap (λ (ms : List Mark). marked ms left.rows) (sym x.unmarked);
         is_named = x.named ∙ ap (λ (k : Kept). k.next_volume) b.anew.kept_is;
+        meter = with_fold x.image at.counts.meter;
+        metered = subst (λ (n : ℕ). Metered g n (history.entries ++ entry ∷ []) (one_more left) (with_fold x.image at.counts.meter)) (sym room)
+            (anew history.entries w at.counts.meter entry (one_more left) command x.image at.counts.metered plan.commanded.step refl refl acts
+            (p.kept.lost, anew_is g history.entries w least command plan.loop entry old.store.lanes p come few plan.commanded no_lane (kept_in x.image) b.anew));
+        measures = record { image = x.found_is; used = x.used };
+        counted = calls_more 6 at.counts.meter.calls old.calls new.calls at.counts.calls x.calls;
       }
 
-  stayed : actions_of_command (settle w.books) (decision_on old.store.control.grain w command plan.loop) ≡ [] → AnewOr seen may_leave false decision mid new → Behind
-  stayed none x =
+  stayed : CommandActs old.store.control.grain w command [] → actions_of_command (settle w.books) (decision_on old.store.control.grain w command plan.loop) ≡ [] → AnewOr seen may_leave false decision mid new → Behind
+  stayed acts none x =
       let u = law.unchanged g history.entries w least command plan.loop entry old.store.lanes new.store.lanes p come few plan.commanded none
       (have_left law g history.entries w least command old.store.lanes p come few decisions s settling decision plan sames new.store done) (same_disks old.store.lanes new.store.lanes lanes_same) in
       record {
@@ -135,6 +150,11 @@ module _ {C D : Type 0} (seen : D → List ℕ) (may_leave : D → List ℕ → 
         kept = at.keeps.kept;
         rows = at.keeps.rows ∙ (λ i. marked (sym x.2 i) (sym u.0 i));
         is_named = x.1 ∙ (at.keeps.named ∙ sym u.1);
+        meter = at.counts.meter;
+        metered = subst (λ m. Metered g (room_of seen m) (history.entries ++ entry ∷ []) (one_more left) at.counts.meter) (sym x.0)
+            (unchanged history.entries w at.counts.meter entry (one_more left) command at.counts.metered plan.commanded.step refl refl acts);
+        measures = subst (λ m. IsMetered seen m at.counts.meter) (sym x.0) at.counts.is;
+        counted = x.3 ∙ at.counts.calls;
       }
 
   no_action : settling ≡ settle w.books → (has_effect settling || has_effect decision) ≡ false → actions_of_command (settle w.books) (decision_on old.store.control.grain w command plan.loop) ≡ []
@@ -142,12 +162,15 @@ module _ {C D : Type 0} (seen : D → List ℕ) (may_leave : D → List ℕ → 
       subst (λ (d : Decision). actions_of_command (settle w.books) d ≡ []) plan.is
       (subst (λ (d : Decision). actions_of_command d decision ≡ []) settles (ap (λ (b : Bool). if b then Fold ∷ [] else []) e))
 
-  by_action : (c : Bool) → settling ≡ settle w.books → (b : Bool) → ((has_effect settling || has_effect decision) || c) ≡ b → AnewOr seen may_leave b decision mid new → Behind
-  by_action c settles true e x = made_anew x
-  by_action c settles false e x = stayed (no_action settles (neither (has_effect settling) (has_effect decision) c e)) x
+  by_action : settling ≡ settle w.books → room_of seen new.meta ≡ room_of seen old.meta → (b : Bool) → ((has_effect settling || has_effect decision) || is_some (removed_by decision.events)) ≡ b → AnewOr seen may_leave b decision mid new → Behind
+  by_action settles room true e x = made_anew (acts g w command decisions s settling decision plan settles e) room x
+  by_action settles room false e x =
+      let none : (has_effect settling || has_effect decision) ≡ false = neither (has_effect settling) (has_effect decision) (is_some (removed_by decision.events)) e in
+      stayed (acts_not g w command decisions s settling decision plan settles none) (no_action settles none) x
 
-  pub stands_behind : settling ≡ settle w.books → AnewOr seen may_leave ((has_effect settling || has_effect decision) || is_some (removed_by decision.events)) decision (record old { store = s }) new → Behind
-  stands_behind settles x = by_action (is_some (removed_by decision.events)) settles ((has_effect settling || has_effect decision) || is_some (removed_by decision.events)) refl x
+  pub stands_behind : settling ≡ settle w.books → room_of seen new.meta ≡ room_of seen old.meta → AnewOr seen may_leave ((has_effect settling || has_effect decision) || is_some (removed_by decision.events)) decision (record old { store = s }) new →
+      Behind
+  stands_behind settles room x = by_action settles room ((has_effect settling || has_effect decision) || is_some (removed_by decision.events)) refl x
 
   module _ (b : Behind) where
     -- ---- the entry leads on
@@ -182,6 +205,12 @@ module _ {C D : Type 0} (seen : D → List ℕ) (may_leave : D → List ℕ → 
             volumes = volumes;
             matches = subst (λ (z : GrainSize). MatchAll z new.named b.point.kept new.store.lanes b.point.disks) (sym grain_is)
                 (subst (λ (z : ℕ). MatchAll g z b.point.kept new.store.lanes b.point.disks) (sym b.is_named) b.come.matches);
+          };
+          counts = record {
+            meter = b.meter;
+            metered = subst (λ (z : GrainSize). Metered z (room_of seen new.meta) (history.entries ++ entry ∷ []) (one_more left) b.meter) (sym grain_is) b.metered;
+            is = b.measures;
+            calls = b.counted;
           };
         }
 

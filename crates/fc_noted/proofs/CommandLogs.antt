@@ -16,17 +16,18 @@ use Rattle.fc_legal.specs.Agenda.{Asks}
 use Rattle.fc_legal.specs.Steps.{Step}
 use Rattle.fc_legal.specs.Whole.{Whole}
 use Rattle.fc_marks.specs.declared.error.NotedStop.{NotedStop}
-use Rattle.fc_marks.specs.declared.error.NotedStop.TheVariants.{LogFull, NoMemory as WantsMemory}
+use Rattle.fc_marks.specs.declared.error.NotedStop.TheVariants.{LogFull, MetaFailed, NoMemory as WantsMemory}
 use Rattle.fc_metadisk.specs.Disk.{LeavesOnly}
 use Rattle.fc_script.specs.Asking.{Fits, IsAnswer, IsLeft}
 use Rattle.fc_script.specs.Script.{agenda_of}
 use Rattle.fc_script.specs.declared.script.Script.{Script}
 use Rattle.fc_stands.specs.Store.{StandsFor, StoreView}
 use Rattle.fc_noted.proofs.Begun.{at_rest}
+use Rattle.fc_noted.proofs.CallsMade.{counts_still}
 use Rattle.fc_noted.proofs.Counting.{has_counted}
 use Rattle.fc_noted.proofs.Moments.{hold_either, resting_found, still_leaves}
 use Rattle.fc_noted.proofs.Stepping.{same_stop}
-use Rattle.fc_noted.specs.Making.{GoesBehind, IsHeldAt, KeepLanes, LeadsOn, StepMade, always}
+use Rattle.fc_noted.specs.Making.{CountsInto, GoesBehind, IsHeldAt, KeepLanes, LeadsOn, StepMade, always}
 use Rattle.fc_noted.specs.Noted.{IsAt, IsAtBy, IsNotedAt, Logs}
 use Rattle.fc_noted.specs.Stopping.{HasStopped, LeavesRecoverable}
 use Rattle.fc_noted.specs.declared.noted.Noted.{Noted}
@@ -54,6 +55,7 @@ module _ {C D : Type 0} (seen : D → List ℕ) (may_leave : D → List ℕ → 
             let m = resting_found seen may_leave old before w least h few in
             (refl, record { volumes = h.keeps.volumes; counted = has_counted old.store w h.told.0 few; leaves = λ c may. (h.keeps.image, ap recovered (h.keeps.rests.durable c may) ∙ h.keeps.says, m) });
         full = λ e. full;
+        into = λ e. absurd cc;
       }
 
 -- the command isn't done, or it is and its entry is there
@@ -64,13 +66,16 @@ module _ {C D : Type 0} (seen : D → List ℕ) (may_leave : D → List ℕ → 
   rest : (w : Whole) (least : List Row) → IsAt seen may_leave old before w least → IsNotedAt seen may_leave old before w least
   rest w least at = at_rest seen may_leave old before w least idle at
 
-  pub undone_made : (stop : NotedStop) → (stop ≡ LogFull → ⊥) → StepMade seen may_leave moment left_since (Err stop) old mid before before
-  undone_made stop other =
+  pub undone_made : (stop : NotedStop) → (stop ≡ LogFull → ⊥) →
+      (stop ≡ MetaFailed → (history : HistoryState) (w : Whole) (least : List Row) → length history.entries < 262144 → IsNotedAt seen may_leave old history w least → CountsInto seen old mid history w) →
+      StepMade seen may_leave moment left_since (Err stop) old mid before before
+  undone_made stop other into =
       record {
         on = tt;
         any_moment = λ w least at. any_moment before w least room (rest w least at);
         stopped = λ w least at. (refl, stopped before w least room (rest w least at));
         full = λ e. absurd (other (same_stop stop e));
+        into = λ e w least at. into (same_stop stop e) before w least room (rest w least at);
       }
 
   -- with whatever script
@@ -90,6 +95,7 @@ module _ {C D : Type 0} (seen : D → List ℕ) (may_leave : D → List ℕ → 
           any_moment = λ w least at. any_moment before w least room (rest w least at);
           stopped = λ w least at. (refl, stops w least at);
           full = λ e. absurd (let f : WantsMemory ≡ LogFull = same_stop WantsMemory e in cc);
+          into = λ e. absurd cc;
         }
 
     module _ (entry : Entry) (command : Command) (leads : LeadsOn seen may_leave old before entry mid) (is_asked : IsAsked 0 0 (Asked command) entry)
@@ -151,6 +157,7 @@ module _ {C D : Type 0} (seen : D → List ℕ) (may_leave : D → List ℕ → 
                 volumes = h.keeps.volumes;
                 matches = h.keeps.matches;
               };
+              counts = counts_still seen may_leave mid new after.entries led.0 refl refl refl h.counts;
             }
 
         logs : Logs seen may_leave w least before old new after
@@ -178,6 +185,7 @@ module _ {C D : Type 0} (seen : D → List ℕ) (may_leave : D → List ℕ → 
             any_moment = λ w least at. any_moment before w least room (rest w least at);
             stopped = tt;
             full = λ e. absurd cc;
+            into = λ e. absurd cc;
           }
 
       by_result : (result : Result (Unit {0}) NotedStop) (later : HistoryState) → OnOk result (later ≡ record before { entries = before.entries ++ (record entry { number = length before.entries }) ∷ [] }) →

@@ -5,11 +5,12 @@ use Rattle.fc_base.specs.declared.command.Command.{Command}
 use Rattle.fc_base.specs.declared.size.GrainSize.{GrainSize}
 use Rattle.fc_changed.specs.Row.{Row}
 use Rattle.fc_entry.specs.declared.entry.Entry.{Entry}
-use Rattle.fc_grains.specs.Grains.{stopped}
+use Rattle.fc_grains.specs.Grains.{GrainsState, stopped}
 use Rattle.fc_kept.specs.Marks.{LeastLeft, LeastLeft.decided, LeastLeft.settled_alone, LeastLeft.unsettled}
 use Rattle.fc_lane.specs.Lane.{LaneView}
 use Rattle.fc_legal.specs.Steps.{after_access}
 use Rattle.fc_legal.specs.Whole.{Whole}
+use Rattle.fc_noted.proofs.Holding.{HoldSame, as_many, same_at}
 use Rattle.fc_noted.specs.Stopping.{AreCounted}
 use Rattle.fc_parts.proofs.Decisions.{calls_of_part, faults_of_part}
 use Rattle.fc_stands.specs.Store.{AreFewCalls, AreLanesOf, StandsFor, StoreView}
@@ -42,6 +43,19 @@ module _ (grain : GrainSize) (for w : Whole) (ls : List LaneView) (calls_are : f
 
 pub has_counted : (s : StoreView) (w : Whole) → StandsFor s w → w.entries ≤ 262144 → AreCounted w s.lanes
 has_counted s w up within = counted_as s.control.grain w w s.lanes refl refl up.each up.count up.stands.each_lane.calls up.calls within
+
+-- ---- lanes that hold the same
+
+pub counted_same : (w : Whole) (old new : List LaneView) → HoldSame old new → AreCounted w old → AreCounted w new
+counted_same w old new same c =
+    let many : length new ≡ length old = as_many old new same in
+    let inside : (i : ℕ) → i < length new → i < length old = λ i il. subst (λ (n : ℕ). i < n) many il in
+    record {
+      of_calls = many ∙ c.of_calls;
+      of_faults = many ∙ c.of_faults;
+      calls = λ i d il. subst (λ (g : GrainsState). slice_index_or w.calls i 0 ≤ g.calls) (sym (same_at old new same i d il)) (c.calls i d (inside i il));
+      faults = λ i d il. subst (λ (g : GrainsState). slice_index_or w.faults i 0 ≤ g.faults) (sym (same_at old new same i d il)) (c.faults i d (inside i il));
+    }
 
 -- ---- while a command is done, which counts nothing
 

@@ -14,6 +14,7 @@ use Rattle.fc_follow.specs.Following.{rows_entry}
 use Rattle.fc_format.specs.Halves.{recovered}
 use Rattle.fc_held.proofs.Holding.{all_agree}
 use Rattle.fc_held.specs.Held.{HaveVolumes, MatchAll}
+use Rattle.fc_kept.specs.Images.{kept_in}
 use Rattle.fc_kept.specs.Marks.{least_entry}
 use Rattle.fc_lane.specs.Doing.{FitsAsk, IsUnderWay}
 use Rattle.fc_lane.specs.Entering.{HasFollowed}
@@ -24,20 +25,22 @@ use Rattle.fc_legal.specs.Steps.{Step, after_access}
 use Rattle.fc_legal.specs.Whole.{Whole, single_lane}
 use Rattle.fc_marks.specs.Marks.{marked}
 use Rattle.fc_marks.specs.declared.error.NotedStop.{NotedStop}
-use Rattle.fc_marks.specs.declared.error.NotedStop.TheVariants.{LogFull, NoMemory as WantsMemory}
+use Rattle.fc_marks.specs.declared.error.NotedStop.TheVariants.{LogFull, MetaFailed, NoMemory as WantsMemory}
 use Rattle.fc_marks.specs.declared.marks.Mark.{Mark}
+use Rattle.fc_meta.specs.States.{room_of}
 use Rattle.fc_metadisk.specs.Disk.{LeavesOnly}
-use Rattle.fc_noted.proofs.Data.{hand_none, matches_none, since_then}
+use Rattle.fc_noted.proofs.Counting.{counted_same}
+use Rattle.fc_noted.proofs.Data.{acted_none, hand_none, matches_none, since_then}
 use Rattle.fc_noted.proofs.Failing.{failed_same}
-use Rattle.fc_noted.proofs.Finishing.{is_right, rows, runs, store_stands}
+use Rattle.fc_noted.proofs.Finishing.{is_right, not_of_all, rows, runs, store_stands}
 use Rattle.fc_noted.proofs.Holding.{HoldSame, have_same, match_same, one_same}
 use Rattle.fc_noted.proofs.InHand.{doing_counted, now_inside, recovered_of, safe}
+use Rattle.fc_noted.proofs.MeteringHand.{ends_so}
 use Rattle.fc_noted.proofs.Moments.{doing_found, hold_either, still_leaves}
-use Rattle.fc_noted.proofs.Rising.{counted_same}
-use Rattle.fc_noted.proofs.Safe.{safe_by}
 use Rattle.fc_noted.proofs.Stepping.{same_stop}
 use Rattle.fc_noted.specs.Making.{GoesBehind, WayMade}
-use Rattle.fc_noted.specs.Noted.{IsAtBy, IsDoing, IsNotedAt, Keeps, Logs}
+use Rattle.fc_noted.specs.Metered.{AreActionsOf, Metered, Metered.access, after_actions}
+use Rattle.fc_noted.specs.Noted.{Counts, IsAtBy, IsDoing, IsNotedAt, Keeps, Logs}
 use Rattle.fc_noted.specs.Stopping.{AreCounted, HasStopped, LeavesRecoverable, MayBeRecovered, MoreFailed}
 use Rattle.fc_noted.specs.declared.noted.Noted.{Noted}
 use Rattle.fc_noted.specs.declared.noted.UnderWay.{UnderWay}
@@ -50,6 +53,7 @@ use Rattle.fc_steps.specs.UnderWay.{next_of}
 use Rattle.fc_steps.specs.declared.stepping.Next.TheVariants.{Over}
 use Rattle.fc_store.specs.Stepping.{IsInLane, lane_in, no_lane}
 use Rattle.law_noted.proofs.HandOn.{found as hand_found}
+use Rattle.law_noted.proofs.OldOrNew.{safe_by}
 use Rattle.law_noted.specs.DataSteps.{IsInHand}
 use Rattle.law_noted.specs.Going.{IsEntryOf, marks_left, volume_noted}
 use Rattle.law_noted.specs.Runs.{HasRun}
@@ -87,6 +91,15 @@ doing_taken seen may_leave n way o history w least d =
         named = d.keeps.named;
         volumes = d.keeps.volumes;
         matches = d.keeps.matches;
+      };
+      counts = record {
+        before = d.counts.before;
+        metered = d.counts.metered;
+        same = d.counts.same;
+        actions = d.counts.actions;
+        acted = d.counts.acted;
+        is = d.counts.is;
+        calls = d.counts.calls;
       };
     }
 
@@ -213,6 +226,22 @@ module _ {C D : Type 0} (seen : D → List ℕ) (may_leave : D → List ℕ → 
             let longer : length (history.entries ++ entry ∷ []) ≡ length history.entries + 1 = length-append history.entries (entry ∷ []) in
             (stands_next, record { actors = d.told.1.actors; entries = omega (arith, so_many, longer) })
 
+        counts_next : Counts seen may_leave new (history.entries ++ entry ∷ []) (after_access d.begun.control.grain w way.place entry)
+        counts_next =
+            let c = d.counts in
+            let half : ℕ = room_of seen n.meta in
+            let are : AreActionsOf grain w (kept_in c.before.image).rows entry c.actions =
+            subst (λ (rs : List Row). AreActionsOf grain w rs entry c.actions) (sym c.same)
+            (ends_so grain w least way.place way.doing (lane_in d.begun way.place) (lane_in n.store way.place) d.steps d.before d.point hand c.actions (acted_none seen may_leave old way history w least d none) over entry x) in
+            let all : Metered grain half (history.entries ++ entry ∷ []) next (after_actions half c.before c.actions) =
+            access history.entries w c.before entry next c.actions c.metered step (not_of_all seen may_leave old way history w least d none over entry then x f) are in
+            record {
+              meter = after_actions half c.before c.actions;
+              metered = subst (λ (z : ControlState). Metered z.grain half (history.entries ++ entry ∷ []) next (after_actions half c.before c.actions)) (sym control_is) all;
+              is = c.is;
+              calls = c.calls;
+            }
+
         noted_next : IsNotedAt seen may_leave new (record history { entries = history.entries ++ entry ∷ [] }) (after_access d.begun.control.grain w way.place entry) (least_entry (single_lane d.begun.control.grain) least entry)
         noted_next =
             let run : HasRun grain (history.entries ++ entry ∷ []) next (least_entry (single_lane grain) least entry) d.point = runs seen may_leave old way history w least d none over entry then x f in
@@ -223,6 +252,7 @@ module _ {C D : Type 0} (seen : D → List ℕ) (may_leave : D → List ℕ → 
               point = d.point;
               run = subst (λ (z : ControlState). HasRun z.grain (history.entries ++ entry ∷ []) next (least_entry (single_lane grain) least entry) d.point) (sym control_is) run;
               keeps = subst (λ (z : ControlState). Keeps seen may_leave z.grain n.meta new next None d.point) (sym control_is) keeps_next;
+              counts = counts_next;
             }
 
         logs : n.live ≡ true → Logs seen may_leave w least history old new (record history { entries = history.entries ++ entry ∷ [] })
@@ -260,6 +290,7 @@ module _ {C D : Type 0} (seen : D → List ℕ) (may_leave : D → List ℕ → 
           any_moment = λ w least d. leaves history w least d marks script moment left_since only_now;
           stopped = tt;
           full = λ f. absurd cc;
+          into = λ f. absurd cc;
         }
 
     unlogged : (history : HistoryState) → WayMade seen may_leave moment left_since (Err WantsMemory) n way behind history history
@@ -269,6 +300,7 @@ module _ {C D : Type 0} (seen : D → List ℕ) (may_leave : D → List ℕ → 
           any_moment = λ w least d. leaves history w least d marks script moment left_since only_now;
           stopped = λ w least d. (refl, stops history w least d marks script);
           full = λ f. absurd (let e : WantsMemory ≡ LogFull = same_stop WantsMemory f in cc);
+          into = λ f. absurd (let e : WantsMemory ≡ MetaFailed = same_stop WantsMemory f in cc);
         }
 
     by_result : (result : Result (Unit {0}) NotedStop) (history later : HistoryState) → OnOk result (later ≡ record history { entries = history.entries ++ entry ∷ [] }) →

@@ -1,10 +1,9 @@
 -- A copy or a cleaning that is next can begin in the lane of its grain.
-use Rattle.std.proofs.Common.{◌≡◌, ℕ, ◌%◌, ◌<◌, ◌≤◌, Bool, true, false, cond, Option, Some, None, List, length, slice_index_or, refl, sym, ap, subst, ◌∙◌}
-use Rattle.std.specs.Prelude.{IsSome}
+use Rattle.std.proofs.Common.{◌≡◌, ℕ, ◌%◌, ◌≤◌, Bool, true, false, cond, Option, Some, None, length, slice_index_or, refl, ap, subst}
+use Rattle.std.specs.Prelude.{Err, IsErrOf, IsSome}
 use Rattle.std.proofs.lemmas.List.{get_or_default}
 use Rattle.fc_base.specs.declared.ids.GrainNo.{GrainNo}
 use Rattle.fc_base.specs.declared.ids.MapId.{MapId}
-use Rattle.fc_base.specs.declared.request.Request.{Request}
 use Rattle.fc_base.specs.declared.request.Request.TheVariants.{Copy, Clean}
 use Rattle.fc_base.specs.declared.size.GrainSize.{GrainSize}
 use Rattle.fc_entry.specs.HistoryState.{HistoryState}
@@ -16,11 +15,10 @@ use Rattle.fc_lane.specs.Lane.{IsFollowing, LaneView, of}
 use Rattle.fc_lane.specs.Workers.{ask_of}
 use Rattle.fc_lane.specs.declared.worker.Worker.TheVariants.{Cleaner, Copier}
 use Rattle.fc_lane.specs.declared.worker.Worker.{Worker}
-use Rattle.fc_legal.specs.Agenda.{Asks}
-use Rattle.fc_legal.specs.Seconds.{Work, filled_by, next_grain}
+use Rattle.fc_legal.specs.Seconds.{Work, filled_by}
 use Rattle.fc_legal.specs.Whole.{Whole}
 use Rattle.fc_marks.specs.Stops.{stop_of_log}
-use Rattle.fc_marks.specs.declared.error.NotedStop.TheVariants.{LogFull}
+use Rattle.fc_marks.specs.declared.error.NotedStop.TheVariants.{LogFull, MetaFailed}
 use Rattle.fc_parts.specs.Law.{IsInVolume}
 use Rattle.fc_rules.specs.LaneTold.{LaneOf, LaneTold, place_of}
 use Rattle.fc_script.specs.Asking.{HasNextFill}
@@ -36,6 +34,15 @@ use Rattle.fc_store.specs.Stepping.{lane_in, no_lane}
 pub full_only : (stop : Stop) (history : HistoryState) → IsStopped stop history → stop_of_log stop ≡ LogFull → 262144 ≤ length history.entries
 full_only Full history full is = full
 full_only NoRoom history full is = absurd cc
+
+-- and no disk failed then
+pub not_failed : (stop : Stop) → stop_of_log stop ≡ MetaFailed → ⊥
+not_failed Full is = cc
+not_failed NoRoom is = cc
+
+pub no_disk_failed : {T : Type 0} (stop : Stop) → IsErrOf {T = T} (Err (stop_of_log stop)) MetaFailed → ⊥
+no_disk_failed Full e = cc
+no_disk_failed NoRoom e = cc
 
 -- the work of a fill
 map_in : MapId → Asked → MapId

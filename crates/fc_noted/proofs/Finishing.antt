@@ -1,5 +1,6 @@
 -- The entry of steps that are over is right, the history leads on with it, and the store stands for what it leaves.
 use Rattle.std.proofs.Common.{◌≡◌, ℕ, ◌≤◌, ◌^◌, None, List, [], ◌∷◌, ◌++◌, slice_set, refl, sym, subst, ◌∙◌}
+use Rattle.fc_base.specs.declared.request.Place.TheVariants.{Every, Lane as LaneAt}
 use Rattle.fc_base.specs.declared.request.Request.{Request}
 use Rattle.fc_base.specs.declared.size.GrainSize.{GrainSize}
 use Rattle.fc_changed.specs.Row.{Row}
@@ -67,6 +68,9 @@ module _ {C D : Type 0} (seen : D → List ℕ) (may_leave : D → List ℕ → 
   both =
       let y = f.right (followed_at grain w place) at.stands (fits_here grain w least place way.doing lane (lane_in n.store way.place) d.steps d.before d.point hand) in
       subst (λ (l : LaneOf). IsRightInLane l (part_at grain w place) entry × IsFollowing new (followed_entry l (followed_at grain w place) entry)) hand.lane_is y
+
+  pub not_of_all : entry.place ≡ Every → ⊥
+  not_of_all e = absurd (let no : Every ≡ LaneAt (lane_at grain w place).lane = sym e ∙ both.0.place in cc)
 
   is_of : IsOfLane grain w place entry.request
   is_of = subst (λ (r : Request). IsOfLane grain w place r) (sym x.request) (of_lane grain w place way.doing.steps.ask (lane_is_of grain w least place way.doing lane (lane_in n.store way.place) d.steps d.before d.point hand))

@@ -1,6 +1,6 @@
 -- The ids in an image of what is sound are ids.
 use Rattle.std.proofs.Common.{◌≡◌, ℕ, suc, ◌<◌, ◌==◌, Bool, true, false, cond, IsSome, Option, Some, None, List, [], ◌∷◌, length, get_or, All, Contains, inl, inr, refl, sym, subst, arith}
-use Rattle.std.specs.List.{filter}
+use Rattle.std.specs.List.{filter, find}
 use Rattle.std.specs.Option.{ForSome}
 use Rattle.std.proofs.lemmas.Bool.{eqb-true}
 use Rattle.std.proofs.lemmas.List.Elements.{All-map}
@@ -33,21 +33,20 @@ some_found : {X : Type 0} (o : Option X) → IsSome o → (x : X) × (o ≡ Some
 some_found None some = absurd cc
 some_found (Some x) some = (x, refl)
 
-volume_below : (k : Kept) (id : VolId) → IsSoundKept k → IsSome (volume_with k.tables id) → id.0 < k.next_volume
-volume_below k id s some =
-    let x = some_found (volume_with k.tables id) some in
-    let f = find_from (λ (v : Volume). id.0 == v.id.0) k.tables.volumes x.0 x.1 in
-    let lt : x.0.id.0 < k.next_volume = all_in_is (λ (v : Volume). v.id.0 < k.next_volume) k.tables.volumes s.books.tables.new_volume x.0 f.0 in
-    let same : id.0 ≡ x.0.id.0 = eqb-true id.0 x.0.id.0 f.1 in
+-- where the numbers of all are below the next one
+found_below : {X : Type 0} (number : X → ℕ) (n next : ℕ) (xs : List X) → All (λ x. number x < next) xs → IsSome (find (λ x. n == number x) xs) → n < next
+found_below {X} number n next xs below some =
+    let x = some_found (find (λ x. n == number x) xs) some in
+    let f = find_from (λ x. n == number x) xs x.0 x.1 in
+    let lt : number x.0 < next = all_in_is (λ (y : X). number y < next) xs below x.0 f.0 in
+    let same : n ≡ number x.0 = eqb-true n (number x.0) f.1 in
     omega (arith, lt, same)
 
+volume_below : (k : Kept) (id : VolId) → IsSoundKept k → IsSome (volume_with k.tables id) → id.0 < k.next_volume
+volume_below k id s some = found_below (λ (v : Volume). v.id.0) id.0 k.next_volume k.tables.volumes s.books.tables.new_volume some
+
 group_below : (k : Kept) (id : GroupId) → IsSoundKept k → IsSome (group_with k.tables id) → id.0 < k.next_group
-group_below k id s some =
-    let x = some_found (group_with k.tables id) some in
-    let f = find_from (λ (g : Group). id.0 == g.id.0) k.tables.groups x.0 x.1 in
-    let lt : x.0.id.0 < k.next_group = all_in_is (λ (g : Group). g.id.0 < k.next_group) k.tables.groups s.books.tables.new_group x.0 f.0 in
-    let same : id.0 ≡ x.0.id.0 = eqb-true id.0 x.0.id.0 f.1 in
-    omega (arith, lt, same)
+group_below k id s some = found_below (λ (g : Group). g.id.0) id.0 k.next_group k.tables.groups s.books.tables.new_group some
 
 -- ---- groups
 

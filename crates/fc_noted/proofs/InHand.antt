@@ -26,7 +26,6 @@ use Rattle.fc_legal.specs.Whole.{Whole}
 use Rattle.fc_noted.proofs.Counting.{counted_in_lane, has_counted}
 use Rattle.fc_noted.proofs.Failing.{more_failed}
 use Rattle.fc_noted.proofs.Rising.{rising}
-use Rattle.fc_noted.proofs.Safe.{safe_by}
 use Rattle.fc_noted.specs.Noted.{IsDoing}
 use Rattle.fc_noted.specs.Stopping.{AreCounted, MayBeRecovered, MoreFailed}
 use Rattle.fc_noted.specs.declared.noted.Noted.{Noted}
@@ -40,6 +39,7 @@ use Rattle.fc_steps.specs.declared.stepping.Next.TheVariants.{Move as NextMove, 
 use Rattle.fc_store.specs.Stepping.{lane_in, no_lane}
 use Rattle.law_agreeing.specs.Agreeing.{AllAgree}
 use Rattle.law_crash.specs.Doing.{noted}
+use Rattle.law_noted.proofs.OldOrNew.{safe_by}
 use Rattle.law_noted.specs.Advancing.{uncopied}
 use Rattle.law_noted.specs.DataSteps.{IsInHand, copies_nothing}
 use Rattle.law_noted.specs.One.{IsSafe}

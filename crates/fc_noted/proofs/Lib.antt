@@ -4,6 +4,7 @@ mod Acting
 mod Alone
 mod Beginning
 mod Begun
+mod Calling
 mod Copying
 pub mod Counting
 mod Data
@@ -15,9 +16,10 @@ mod Finishing
 mod Fitting
 mod GoingAlong
 mod GoodIds
-pub mod Halting
+mod Halting
 mod Holding
 mod Idle
+mod Unready
 mod InHand
 mod KeepingLanes
 mod Lines
@@ -36,13 +38,16 @@ mod Stepping
 mod Still
 mod Telling
 mod Tidying
+mod CallsMade
 mod Commanding
 mod CommandLanes
 mod Planned
 mod CommandStops
+mod CommandCosts
 mod CommandLeads
 mod CommandLogs
 mod CommandEntry
 mod Metering
 mod MeteringHand
-mod MeteringSteps
+mod Calls
+mod MeteringNoted

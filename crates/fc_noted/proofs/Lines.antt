@@ -1,7 +1,7 @@
 -- A line answered step by step: one step more, and an end.
-use Rattle.std.proofs.Common.{◌≡◌, ℕ, ◌≤◌, true, false, Option, Some, None, List, [], ◌∷◌, ◌++◌, length, append_assoc, Result, Ok, refl, sym, ap, subst, ◌∙◌, ◌⊎◌, inl, inr, arith}
+use Rattle.std.proofs.Common.{◌≡◌, ℕ, ◌≤◌, Bool, true, false, Option, Some, None, List, [], ◌∷◌, ◌++◌, length, append_assoc, Result, Ok, refl, sym, ap, subst, ◌∙◌, ◌⊎◌, inl, inr, arith}
 use Rattle.std.proofs.lemmas.List.{append-nil, length-append}
-use Rattle.std.specs.Prelude.{Err, IfErr, OnOk}
+use Rattle.std.specs.Prelude.{◌↔◌, Err, IfErr, IsTrue, OnOk}
 use Rattle.fc_agenda.specs.Goes.{Goes, GoesAsking, GoesToEnd, answers, passes, stays}
 use Rattle.fc_agenda.proofs.Going.{Goes-append}
 use Rattle.fc_base.specs.declared.command.Line.{Line}
@@ -16,7 +16,16 @@ use Rattle.fc_legal.specs.Agenda.{Agenda, Asks, Reading, Session, line_read, ses
 use Rattle.fc_legal.specs.Whole.{Whole}
 use Rattle.fc_marks.specs.declared.error.NotedStop.TheVariants.{LogFull, NoMemory, MetaFailed, MetaFull}
 use Rattle.fc_marks.specs.declared.error.NotedStop.{NotedStop}
-use Rattle.fc_noted.specs.Stopping.{Halts, LineHalts}
+use Rattle.fc_marks.specs.Meter.{Meter}
+use Rattle.fc_meta.specs.Answers.{more_calls}
+use Rattle.fc_meta.specs.States.{disk_of}
+use Rattle.fc_meta.specs.declared.meta.Meta.{Meta}
+use Rattle.fc_noted.proofs.Calling.{calls_behind}
+use Rattle.fc_noted.proofs.KeepingLanes.{lanes_still}
+use Rattle.fc_noted.proofs.MeteringNoted.{no_calls}
+use Rattle.fc_noted.specs.Lines.{LineEnds, LineStops, Ran, ScriptEnds, ScriptStops}
+use Rattle.fc_noted.specs.Making.{KeepLanes, done}
+use Rattle.fc_noted.specs.Stopping.{Halts, Paid}
 use Rattle.fc_noted.specs.Noted.{CanStep, GoesOnTo, IsAt, IsAtBy, IsNotedAt, Logs, Stays}
 use Rattle.fc_noted.specs.declared.noted.Noted.{Noted}
 use Rattle.fc_noted.specs.declared.noted.UnderWay.{UnderWay}
@@ -68,6 +77,10 @@ module _ {C D : Type 0} (seen : D → List ℕ) (may_leave : D → List ℕ → 
     pub grain : now.store.control.grain ≡ old.store.control.grain
     pub came : Came old before now after
 
+  -- What one step made, by whether something was left.
+  abbrev pub Made : Bool → Noted C D → HistoryState → Noted C D → HistoryState → Type 0
+  Made more mid between new after = (w : Whole) (least : List Row) → IsAt seen may_leave mid between w least → GoesOnTo seen may_leave more w least mid between new after
+
   at_first : (n : Noted C D) (history : HistoryState) (w : Whole) (least : List Row) → IsNotedAt seen may_leave n history w least → IsAt seen may_leave n history w least
   at_first n history w least at = subst (λ (o : Option UnderWay). IsAtBy seen may_leave o n history w least) (sym at.idle) at
 
@@ -114,9 +127,8 @@ module _ {C D : Type 0} (seen : D → List ℕ) (may_leave : D → List ℕ → 
     went w m least to (inl s) = stayed w m least to s
     went w m least to (inr l) = logged w m least to l
 
-    -- One step more.
-    pub comes_on : ((w : Whole) (least : List Row) → IsAt seen may_leave mid between w least → GoesOnTo seen may_leave true w least mid between new after) → Comes old before new after
-    comes_on made =
+    goes : Made true mid between new after → Comes old before new after
+    goes made =
         let c = comes.can in
         by (made c.w c.least c.at)
       where
@@ -147,6 +159,10 @@ module _ {C D : Type 0} (seen : D → List ℕ) (may_leave : D → List ℕ → 
           came = came_on;
         }
 
+    -- One step more.
+    pub comes_on : {more : Bool} → more ≡ true → Made more mid between new after → Comes old before new after
+    comes_on is made = goes (subst (λ (b : Bool). Made b mid between new after) is made)
+
   -- ---- an end
 
   -- Nothing that is under way is asked any more.
@@ -160,35 +176,30 @@ module _ {C D : Type 0} (seen : D → List ℕ) (may_leave : D → List ℕ → 
       subst (λ (a : Agenda). Asks d.begun.control.grain a w (0, request_of way.doing.steps.ask)) over_then d.asked in
       absurd (cc none)
 
-  -- All that was asked is answered.
-  abbrev pub AllMade : Noted C D → HistoryState → Noted C D → HistoryState → Type 0
-  AllMade old before new after =
-      (read : Reading) (w : Whole) (least : List Row) → IsNotedAt seen may_leave old before w least →
-      (next : Whole) × (least_next : List Row) × IsNotedAt seen may_leave new after next least_next
-      × Adds before after (λ more. GoesToEnd (session_rules old.store.control.grain read) (agenda_of old.store.control.grain old.script) w more next)
+  module _ (old mid : Noted C D) (before between : HistoryState) (comes : Comes old before mid between) (new : Noted C D) (after : HistoryState) {more : Bool} (is : more ≡ false) (made : Made more mid between new after) where
+    ends : Made false mid between new after
+    ends = subst (λ (b : Bool). Made b mid between new after) is made
 
-  pub all_made : (old mid : Noted C D) (before between : HistoryState) → Comes old before mid between → (new : Noted C D) (after : HistoryState) →
-      ((w : Whole) (least : List Row) → IsAt seen may_leave mid between w least → GoesOnTo seen may_leave false w least mid between new after) → AllMade old before new after
-  all_made old mid before between comes new after made read w least there =
-      let m = comes.came w least there in
-      let s = made m.0 m.1 m.2 in
-      let on = stayed old mid before between comes new after w m.0 m.1 m.3 s.0 in
-      let grain : GrainSize = old.store.control.grain in
-      let over : agenda_of grain new.script ≡ Session [] = subst (λ (g : GrainSize). agenda_of g new.script ≡ Session []) (s.0.grain ∙ comes.grain) s.1 in (
-        on.0,
-        on.1,
-        rests_by new.under_way new after on.0 on.1 on.2 s.1,
-        record { more = on.3.more; entries = on.3.entries; are = record { end = agenda_of grain new.script; goes = on.3.are read; over = over } },
-      )
+    -- All that was asked is answered.
+    pub all_made : ScriptEnds seen may_leave old new before after
+    all_made read w least there =
+        let m = comes.came w least there in
+        let s = ends m.0 m.1 m.2 in
+        let on = stayed old mid before between comes new after w m.0 m.1 m.3 s.0 in
+        let grain : GrainSize = old.store.control.grain in
+        let over : agenda_of grain new.script ≡ Session [] = subst (λ (g : GrainSize). agenda_of g new.script ≡ Session []) (s.0.grain ∙ comes.grain) s.1 in (
+          on.0,
+          on.1,
+          rests_by new.under_way new after on.0 on.1 on.2 s.1,
+          record { more = on.3.more; entries = on.3.entries; are = record { end = agenda_of grain new.script; goes = on.3.are read; over = over } },
+        )
 
-  -- Which is within the limit, and another line may be asked.
-  pub all_over : (old mid : Noted C D) (before between : HistoryState) → Comes old before mid between → (new : Noted C D) (after : HistoryState) →
-      ((w : Whole) (least : List Row) → IsAt seen may_leave mid between w least → GoesOnTo seen may_leave false w least mid between new after) →
-      (new.store.control.grain ≡ old.store.control.grain) × (new.live ≡ true) × (length after.entries ≤ 262144)
-  all_over old mid before between comes new after made =
-      let can = comes.can in
-      let s = (made can.w can.least can.at).0 in
-      (s.grain ∙ comes.grain, s.live, subst (λ (h : HistoryState). length h.entries ≤ 262144) (sym s.same) can.room)
+    -- Which is within the limit, and another line may be asked.
+    pub all_over : (new.store.control.grain ≡ old.store.control.grain) × (new.live ≡ true) × (length after.entries ≤ 262144)
+    all_over =
+        let can = comes.can in
+        let s = (ends can.w can.least can.at).0 in
+        (s.grain ∙ comes.grain, s.live, subst (λ (h : HistoryState). length h.entries ≤ 262144) (sym s.same) can.room)
 
 -- ---- a line
 
@@ -221,31 +232,32 @@ module _ (grain : GrainSize) (read : Reading) (bytes : List ℕ) (w : Whole) (li
         are = record { end = adds.are.end; goes = line_goes adds.are.end adds.more last adds.are.goes; wanted = adds.are.wanted; asks = adds.are.asks };
       }
 
-  pub line_halts : {C D : Type 0} (may_leave : D → List ℕ → Type 0) (stop : NotedStop) (new : Noted C D) (before after : HistoryState) → Halts grain may_leave read stop a new w before after →
-      Halts grain may_leave read stop (Session (single bytes ∷ [])) new w before after
-  line_halts may_leave LogFull new before after h = (h.0, (h.1.0, h.1.1, h.1.2, line_asking before after h.1.0 h.1.3))
-  line_halts may_leave NoMemory new before after h = (h.0, h.1, h.2, h.3, line_up_to before after h.1 h.0 h.4)
-  line_halts may_leave MetaFailed new before after h = (h.0, h.1, h.2, h.3, line_up_to before after h.1 h.0 h.4)
-  line_halts may_leave MetaFull new before after h = (h.0, h.1, h.2, h.3, line_up_to before after h.1 h.0 h.4)
+  pub line_halts : {C D : Type 0} (seen : D → List ℕ) (may_leave : D → List ℕ → Type 0) (fault_count calls : D → ℕ) (stop : NotedStop) (old new : Noted C D) (before after : HistoryState) →
+      Halts seen may_leave fault_count calls grain read stop a old new w before after → Halts seen may_leave fault_count calls grain read stop (Session (single bytes ∷ [])) old new w before after
+  line_halts seen may_leave fault_count calls LogFull old new before after h = (h.0, (h.1.0, h.1.1, h.1.2, line_asking before after h.1.0 h.1.3))
+  line_halts seen may_leave fault_count calls NoMemory old new before after h = (h.0, h.1, h.2, h.3, h.4, line_up_to before after h.1 h.0 h.5)
+  line_halts seen may_leave fault_count calls MetaFailed old new before after h = (h.0, h.1, h.2, h.3, h.4, line_up_to before after h.1 h.0 h.5)
+  line_halts seen may_leave fault_count calls MetaFull old new before after h = (h.0, h.1, h.2, h.3, h.4, line_up_to before after h.1 h.0 h.5)
 
-module _ {C D : Type 0} (seen : D → List ℕ) (may_leave : D → List ℕ → Type 0) where
-  -- It is answered to its end.
-  abbrev pub LineEnds : Noted C D → HistoryState → Result Line WordFault → Noted C D → HistoryState → Type 0
-  LineEnds first before line new after =
-      (read : Reading) (bytes : List ℕ) (w : Whole) (least : List Row) → read w.books bytes ≡ line → IsNotedAt seen may_leave first before w least →
-      (next : Whole) × (least_next : List Row) × IsNotedAt seen may_leave new after next least_next
-      × Adds before after (λ more. GoesToEnd (session_rules first.store.control.grain read) (Session (single bytes ∷ [])) w more next)
+module _ {C D : Type 0} (seen : D → List ℕ) (may_leave : D → List ℕ → Type 0) (fault_count calls : D → ℕ) where
+  -- By another noted store, whose metadata was called as often.
+  module _ (first begun : Noted C D) (count : begun.calls ≡ first.calls) (same : begun.meta ≡ first.meta) (new : Noted C D) where
+    paid_of : (grain : GrainSize) (next : Whole) (entries : List Entry) (meter : Meter) → Paid seen fault_count calls grain begun new next entries meter → Paid seen fault_count calls grain first new next entries meter
+    paid_of grain next entries meter p = record {
+      metered = p.metered;
+      unfailed = p.unfailed;
+      disk = p.disk;
+      called = p.called ∙ ap (λ (m : Meta D). more_calls p.unfailed (calls (disk_of m))) same;
+      quiet = p.quiet ∙ ap (λ (m : Meta D). fault_count (disk_of m)) same;
+      before = subst (λ (n : ℕ). more_calls meter.calls 0 ≤ more_calls p.unfailed n) count p.before;
+    }
 
-  -- Or it isn't.
-  abbrev pub AllHalt : Noted C D → HistoryState → NotedStop → Noted C D → HistoryState → Type 0
-  AllHalt old before stop new after =
-      (read : Reading) (w : Whole) (least : List Row) → IsNotedAt seen may_leave old before w least →
-      Halts old.store.control.grain may_leave read stop (agenda_of old.store.control.grain old.script) new w before after
-
-  abbrev pub LineStops : Noted C D → HistoryState → Result Line WordFault → NotedStop → Noted C D → HistoryState → Type 0
-  LineStops first before line stop new after =
-      (read : Reading) (bytes : List ℕ) (w : Whole) (least : List Row) → read w.books bytes ≡ line → IsNotedAt seen may_leave first before w least →
-      LineHalts may_leave read stop first new bytes w before after
+    halts_of : (grain : GrainSize) (read : Reading) (stop : NotedStop) (a : Agenda) (w : Whole) (before after : HistoryState) →
+        Halts seen may_leave fault_count calls grain read stop a begun new w before after → Halts seen may_leave fault_count calls grain read stop a first new w before after
+    halts_of grain read LogFull a w before after h = h
+    halts_of grain read NoMemory a w before after h = (h.0, h.1, h.2, h.3, (h.4.0, paid_of grain h.0 after.entries h.4.0 h.4.1, h.4.2), h.5)
+    halts_of grain read MetaFailed a w before after h = (h.0, h.1, h.2, h.3, (h.4.0, paid_of grain h.0 after.entries h.4.0 h.4.1, h.4.2), h.5)
+    halts_of grain read MetaFull a w before after h = (h.0, h.1, h.2, h.3, (h.4.0, paid_of grain h.0 after.entries h.4.0 h.4.1, h.4.2), h.5)
 
   module _ (first begun : Noted C D) (before : HistoryState) (line : Result Line WordFault) (others : begun ≡ record first { script = begun.script })
       (goes : (w : Whole) → StandsFor first.store w → GoesOn first.store.control.grain w (line_read first.store.control.grain w line []) (agenda_of first.store.control.grain begun.script))
@@ -254,7 +266,7 @@ module _ {C D : Type 0} (seen : D → List ℕ) (may_leave : D → List ℕ → 
     same_grain : begun.store.control.grain ≡ first.store.control.grain
     same_grain = ap (λ (n : Noted C D). n.store.control.grain) others
 
-    pub line_ends : AllMade seen may_leave begun before new after → LineEnds first before line new after
+    pub line_ends : ScriptEnds seen may_leave begun new before after → LineEnds seen may_leave line first new before after
     line_ends made read bytes w least is there =
         let m = made read w least (taken before w least there) in
         let grain : GrainSize = first.store.control.grain in (
@@ -265,17 +277,54 @@ module _ {C D : Type 0} (seen : D → List ℕ) (may_leave : D → List ℕ → 
               (subst (λ (g : GrainSize). Adds before after (λ more. GoesToEnd (session_rules g read) (agenda_of g begun.script) w more m.0)) same_grain m.3),
         )
 
-    pub line_stops : (stop : NotedStop) → AllHalt begun before stop new after → LineStops first before line stop new after
+    pub line_stops : (stop : NotedStop) → ScriptStops seen may_leave fault_count calls stop begun new before after → LineStops seen may_leave fault_count calls line stop first new before after
     line_stops stop halts read bytes w least is there =
         let grain : GrainSize = first.store.control.grain in
-        line_halts grain read bytes w line is (agenda_of grain begun.script) (goes w there.told.0) may_leave stop new before after
-        (subst (λ (g : GrainSize). Halts g may_leave read stop (agenda_of g begun.script) new w before after) same_grain (halts read w least (taken before w least there)))
+        line_halts grain read bytes w line is (agenda_of grain begun.script) (goes w there.told.0) seen may_leave fault_count calls stop first new before after
+        (halts_of first begun (ap (λ (n : Noted C D). n.calls) others) (ap (λ (n : Noted C D). n.meta) others) new grain read stop (agenda_of grain begun.script) w before after
+        (subst (λ (g : GrainSize). Halts seen may_leave fault_count calls g read stop (agenda_of g begun.script) begun new w before after) same_grain (halts read w least (taken before w least there))))
 
     -- whichever it was
-    pub line_answered : (result : Result (Unit {0}) NotedStop) → OnOk result (AllMade seen may_leave begun before new after) → OnOk result (LineEnds first before line new after)
-    line_answered (Ok done) made = line_ends made
+    pub line_answered : (result : Result (Unit {0}) NotedStop) → OnOk result (ScriptEnds seen may_leave begun new before after) → OnOk result (LineEnds seen may_leave line first new before after)
+    line_answered (Ok none) made = line_ends made
     line_answered (Err stop) made = tt
 
-    pub line_halted : (result : Result (Unit {0}) NotedStop) → IfErr result (λ stop. AllHalt begun before stop new after) → IfErr result (λ stop. LineStops first before line stop new after)
-    line_halted (Ok done) halts = tt
+    pub line_halted : (result : Result (Unit {0}) NotedStop) → IfErr result (λ stop. ScriptStops seen may_leave fault_count calls stop begun new before after) → IfErr result (λ stop. LineStops seen may_leave fault_count calls line stop first new before after)
+    line_halted (Ok none) halts = tt
     line_halted (Err stop) halts = line_stops stop halts
+
+-- ---- whether or not it is answered
+
+module _ {C D : Type 0} (seen : D → List ℕ) (fault_count calls : D → ℕ) where
+  -- by the noted store that took it up
+  pub ran_behind : (result : Result (Unit {0}) NotedStop) (first begun new : Noted C D) (history : HistoryState) → begun ≡ record first { script = begun.script } → Ran seen fault_count calls result begun new history →
+      Ran seen fault_count calls result first new history
+  ran_behind result first begun new history others r =
+      let store : begun.store ≡ first.store = ap (λ (n : Noted C D). n.store) others in
+      record {
+        grain = subst (λ (s : StoreView). OnOk result (new.store.control.grain ≡ s.control.grain)) store r.grain;
+        lanes = subst (λ (s : StoreView). KeepLanes s new.store) store r.lanes;
+        counted =
+            calls_behind seen fault_count calls result first begun new
+            (no_calls seen fault_count calls done first begun (ap (λ (n : Noted C D). n.calls) others) (ap (λ (n : Noted C D). n.meta) others) (λ told. cc)) r.counted;
+        live = r.live;
+        stopped = r.stopped;
+        limit = r.limit;
+      }
+
+  -- not taken up
+  pub ran_not : (n same : Noted C D) (history : HistoryState) → same ≡ n → length history.entries ≤ 262144 → Ran seen fault_count calls (Err NoMemory) n (record same { live = false }) history
+  ran_not n same history is room =
+      record {
+        grain = tt;
+        lanes = lanes_still n.store same.store (ap (λ (x : Noted C D). x.store) is);
+        counted =
+            no_calls seen fault_count calls (Err NoMemory) n (record same { live = false }) (ap (λ (x : Noted C D). x.calls) is) (ap (λ (x : Noted C D). x.meta) is) (λ told. cc);
+        live = tt;
+        stopped = refl;
+        limit = room;
+      }
+
+pub not_live : (live : Bool) → (IsTrue live ↔ ⊥) → live ≡ false
+not_live true h = absurd (h.0 refl)
+not_live false h = refl

@@ -13,7 +13,7 @@ use Rattle.fc_held.specs.Held.{MatchAll}
 use Rattle.fc_image.specs.declared.image.MetaImage.{MetaImage}
 use Rattle.fc_image.specs.declared.record.MetaRecord.{MetaRecord}
 use Rattle.fc_image.specs.declared.record.MetaRecord.TheVariants.{Changing}
-use Rattle.fc_kept.specs.Actions.{is_unmarked}
+use Rattle.fc_kept.specs.Actions.{Action.Note, is_unmarked}
 use Rattle.fc_kept.specs.Disks.{NamedDisk}
 use Rattle.fc_kept.specs.Images.{kept_in}
 use Rattle.fc_kept.specs.Kept.{Kept, kept_after, rows_kept}
@@ -21,29 +21,36 @@ use Rattle.fc_kept.specs.Sound.{IsSoundImage}
 use Rattle.fc_lane.specs.Lane.{LaneView}
 use Rattle.fc_legal.specs.Whole.{Whole}
 use Rattle.fc_marks.specs.Marks.{is_open_any, marked}
+use Rattle.fc_marks.specs.Meter.{IsMetered, Meter, with_record}
 use Rattle.fc_marks.specs.declared.error.NotedStop.{NotedStop}
-use Rattle.fc_marks.specs.declared.error.NotedStop.TheVariants.{LogFull}
+use Rattle.fc_marks.specs.declared.error.NotedStop.TheVariants.{LogFull, MetaFailed}
 use Rattle.fc_marks.specs.declared.marks.Mark.{Mark}
-use Rattle.fc_meta.specs.Answers.{LeavesEither, found_with}
-use Rattle.fc_meta.specs.States.{IsResting, found}
+use Rattle.fc_meta.specs.Answers.{LeavesEither, found_with, more_calls}
+use Rattle.fc_meta.specs.States.{IsResting, found, room_of}
 use Rattle.fc_meta.specs.declared.meta.Meta.{Meta}
 use Rattle.fc_metadisk.specs.Disk.{LeavesOnly}
-use Rattle.fc_noted.proofs.Data.{hand_none, rows_are}
+use Rattle.fc_noted.proofs.Data.{acted_none, hand_none, rows_are}
 use Rattle.fc_noted.proofs.Fitting.{IsFit, mark_fits}
 use Rattle.fc_noted.proofs.InHand.{doing_counted, mark_recovered}
+use Rattle.fc_noted.proofs.MeteringHand.{marked_so}
+use Rattle.fc_noted.proofs.MeteringNoted.{goes_into_record, so_far_put}
 use Rattle.fc_noted.proofs.Moments.{doing_found, hold_either, still_leaves}
 use Rattle.fc_noted.proofs.Putting.{put_doing, put_keeps, way_leaves, way_stopped}
 use Rattle.fc_noted.proofs.Stepping.{way_goes, way_stops}
-use Rattle.fc_noted.specs.Making.{WayMade, done}
+use Rattle.fc_noted.specs.Making.{CountsInto, WayMade, done}
+use Rattle.fc_noted.specs.Metered.{Acted}
 use Rattle.fc_noted.specs.Noted.{IsDoing}
 use Rattle.fc_noted.specs.Stopping.{HasStopped, LeavesRecoverable, MayBeRecovered}
 use Rattle.fc_noted.specs.declared.noted.Noted.{Noted}
 use Rattle.fc_noted.specs.declared.noted.UnderWay.{UnderWay}
+use Rattle.fc_steps.specs.Asking.{request_of}
 use Rattle.fc_steps.specs.UnderWay.{next_of}
 use Rattle.fc_steps.specs.declared.stepping.Next.TheVariants.{Own}
 use Rattle.fc_store.specs.Stepping.{lane_in}
+use Rattle.law_crash.specs.Doing.{noted}
 use Rattle.law_noted.proofs.HandOn.{is_wanted, put_mark}
 use Rattle.law_noted.proofs.Marking.{row_law_holds}
+use Rattle.law_noted.specs.Came.{steps_done}
 use Rattle.law_noted.specs.DataSteps.{IsInHand}
 use Rattle.law_noted.specs.Records.{kept_by}
 
@@ -65,7 +72,8 @@ matches_mark grain named k part g lanes ds m =
 module _ {C D : Type 0} (seen : D → List ℕ) (may_leave : D → List ℕ → Type 0) (moment : D → ℕ) (left_since : D → ℕ → List ℕ → Type 0) (counts_now : (disk : D) (t : ℕ) (c : List ℕ) → t ≤ moment disk → may_leave disk c → left_since disk t c)
     (n : Noted C D) (way : UnderWay) (part : WritePart) (none : way.due ≡ None) (live : n.live ≡ true) (next : next_of way.doing.steps ≡ Own part)
     (wants : is_open_any (lane_in n.store way.place).changes.rows n.marks.items part.volume way.doing.steps.grain way.doing.steps.place ≡ true)
-    (meta : Meta D) (marks : Vec Mark Global) (more : marks.items ≡ n.marks.items ++ record { volume = part.volume; grain = way.doing.steps.grain } ∷ [])
+    (meta : Meta D) (calls : ℕ) (counted : (m : Meter) → IsMetered seen n.meta m → n.calls ≡ more_calls m.calls 0 → calls ≡ more_calls (with_record (room_of seen n.meta) (Changing part.volume way.doing.steps.grain) m).calls 0)
+    (marks : Vec Mark Global) (more : marks.items ≡ n.marks.items ++ record { volume = part.volume; grain = way.doing.steps.grain } ∷ [])
     (run : LeavesOnly moment left_since n.meta.disk meta.disk (LeavesEither (found seen n.meta) (found_with (found seen n.meta) (Changing part.volume way.doing.steps.grain ∷ [])))) where
   abbrev old : Noted C D
   old = record n { under_way = Some way }
@@ -77,11 +85,14 @@ module _ {C D : Type 0} (seen : D → List ℕ) (may_leave : D → List ℕ → 
   way_new = record { place = way.place; doing = way.doing; due = None }
 
   abbrev new : Noted C D
-  new = record n { meta = meta; marks = marks; under_way = Some (record { place = way.place; doing = way.doing; due = None }) }
+  new = record n { meta = meta; calls = calls; marks = marks; under_way = Some (record { place = way.place; doing = way.doing; due = None }) }
 
   -- behind an error
   abbrev left : Noted C D
-  left = record n { meta = meta; marks = marks }
+  left = record n { meta = meta; calls = calls; marks = marks }
+
+  abbrev Puts : Type 0
+  Puts = (m : Meter) → IsMetered seen n.meta m → IsMetered seen meta (with_record (room_of seen n.meta) x m)
 
   module _ (history : HistoryState) (w : Whole) (least : List Row) (d : IsDoing seen may_leave (record n { under_way = Some way }) way history w least) where
     abbrev grain : GrainSize
@@ -102,48 +113,60 @@ module _ {C D : Type 0} (seen : D → List ℕ) (may_leave : D → List ℕ → 
     with_it : (image : MetaImage) → IsSoundImage image → kept_in image ≡ kept_after d.point.kept (Changing part.volume way.doing.steps.grain) → MayBeRecovered d.begun.control.grain n.script n.named n.store.lanes w least image
     with_it image = mark_recovered seen may_leave old way history w least d none part image next due
 
+    -- what it costs
+    acted : Acted d.begun.control.grain (request_of way.doing.steps.ask) d.steps (steps_done way.doing.steps) way.doing.steps.stop None d.before.kept.rows (noted x d.point).kept.rows (d.counts.actions ++ Note x ∷ [])
+    acted =
+        marked_so grain w least way.place way.doing (lane_in d.begun way.place) (lane_in n.store way.place) d.steps d.before d.point hand d.counts.actions
+        (acted_none seen may_leave old way history w least d none) part next due
+
     -- it goes on
-    mark_doing : IsResting seen may_leave meta → found seen meta ≡ found_with (found seen n.meta) (Changing part.volume way.doing.steps.grain ∷ []) → IsDoing seen may_leave new way_new history w least
-    mark_doing rests says =
+    mark_doing : IsResting seen may_leave meta → found seen meta ≡ found_with (found seen n.meta) (Changing part.volume way.doing.steps.grain ∷ []) → room_of seen meta ≡ room_of seen n.meta → Puts →
+        IsDoing seen may_leave new way_new history w least
+    mark_doing rests says size metered =
         let rows : (kept_after d.point.kept x).rows ≡ marked marks.items w.rows =
         ap (λ (rs : List Row). rows_kept rs x) d.keeps.rows
         ∙ (sym (row_law_holds.remembered n.marks.items w.rows part.volume way.doing.steps.grain) ∙ ap (λ (ms : List Mark). marked ms w.rows) (sym more)) in
         let matches : MatchAll grain n.named d.point.kept n.store.lanes d.point.disks =
         subst (λ (o : Option MetaRecord). MatchAll grain n.named (kept_by o d.point.kept) n.store.lanes d.point.disks) none d.keeps.matches in
-        put_doing seen may_leave old way history w least x meta marks d
+        put_doing seen may_leave old way history w least x meta calls marks d
         (put_mark grain w least way.place way.doing (lane_in d.begun way.place) (lane_in n.store way.place) d.steps d.before d.point hand part next due)
         (put_keeps seen may_leave grain old new w way.due d.point x d.keeps fit rests says refl rows d.keeps.volumes (matches_mark grain n.named d.point.kept part way.doing.steps.grain.0 n.store.lanes d.point.disks matches))
+        (so_far_put seen may_leave grain old new way way_new history.entries w d.steps d.before.kept.rows d.point.kept.rows (noted x d.point).kept.rows d.counts x acted size metered counted)
 
-    mark_leaves : (after : Option UnderWay) → LeavesOnly moment left_since n.meta.disk meta.disk (LeavesRecoverable old (record n { meta = meta; marks = marks; under_way = after }) w least)
-    mark_leaves = way_leaves seen may_leave n way history w least d x fit with_it moment left_since counts_now meta marks run
+    mark_leaves : (after : Option UnderWay) → LeavesOnly moment left_since n.meta.disk meta.disk (LeavesRecoverable old (record n { meta = meta; calls = calls; marks = marks; under_way = after }) w least)
+    mark_leaves = way_leaves seen may_leave n way history w least d x fit with_it moment left_since counts_now meta calls marks run
 
     -- or it stopped
     mark_stops : HasStopped may_leave old left w least
-    mark_stops = way_stopped seen may_leave n way history w least d x fit with_it moment left_since counts_now meta marks run
+    mark_stops = way_stopped seen may_leave n way history w least d x fit with_it moment left_since counts_now meta calls marks run
 
-  mark_made : IsResting seen may_leave meta → found seen meta ≡ found_with (found seen n.meta) (Changing part.volume way.doing.steps.grain ∷ []) → (history : HistoryState) →
+    -- what is asked for goes so far into metadata
+    mark_into : CountsInto seen old left history w
+    mark_into = goes_into_record seen may_leave old left way history w least d x (steps_done way.doing.steps) way.doing.steps.stop None acted.so_far counted
+
+  mark_made : IsResting seen may_leave meta → found seen meta ≡ found_with (found seen n.meta) (Changing part.volume way.doing.steps.grain ∷ []) → room_of seen meta ≡ room_of seen n.meta → Puts → (history : HistoryState) →
       WayMade seen may_leave moment left_since done n way new history history
-  mark_made rests says =
-      way_goes seen may_leave moment left_since n new way (λ history w least d. mark_leaves history w least d (Some way_new)) way_new live refl refl refl (λ history w least d. mark_doing history w least d rests says)
+  mark_made rests says size metered =
+      way_goes seen may_leave moment left_since n new way (λ history w least d. mark_leaves history w least d (Some way_new)) way_new live refl refl refl (λ history w least d. mark_doing history w least d rests says size metered)
 
   -- with the way as it is
-  pub mark_made_by : IsResting seen may_leave meta → found seen meta ≡ found_with (found seen n.meta) (Changing part.volume way.doing.steps.grain ∷ []) → (history : HistoryState) →
-      WayMade seen may_leave moment left_since done n way (record n { meta = meta; marks = marks; under_way = Some way }) history history
-  mark_made_by rests says history =
+  pub mark_made_by : IsResting seen may_leave meta → found seen meta ≡ found_with (found seen n.meta) (Changing part.volume way.doing.steps.grain ∷ []) → room_of seen meta ≡ room_of seen n.meta → Puts → (history : HistoryState) →
+      WayMade seen may_leave moment left_since done n way (record n { meta = meta; calls = calls; marks = marks; under_way = Some way }) history history
+  mark_made_by rests says size metered history =
       let same : way ≡ way_new = λ i. record { place = way.place; doing = way.doing; due = none i } in
-      subst (λ (z : UnderWay). WayMade seen may_leave moment left_since done n way (record n { meta = meta; marks = marks; under_way = Some z }) history history) (sym same) (mark_made rests says history)
+      subst (λ (z : UnderWay). WayMade seen may_leave moment left_since done n way (record n { meta = meta; calls = calls; marks = marks; under_way = Some z }) history history) (sym same) (mark_made rests says size metered history)
 
   pub mark_failed : (result : Result (Unit {0}) NotedStop) (given stop : NotedStop) → result ≡ Err given → given ≡ stop → (stop ≡ LogFull → ⊥) → (history : HistoryState) →
       WayMade seen may_leave moment left_since result n way (left) history history
   mark_failed result given stop e same other =
-      way_stops seen may_leave moment left_since n left way (λ history w least d. mark_leaves history w least d n.under_way) result given stop e same other mark_stops
+      way_stops seen may_leave moment left_since n left way (λ history w least d. mark_leaves history w least d n.under_way) result given stop e same other mark_stops (λ history w least d is. mark_into history w least d)
 
 -- refused before the disk of metadata is called
 module _ {C D : Type 0} (seen : D → List ℕ) (may_leave : D → List ℕ → Type 0) (moment : D → ℕ) (left_since : D → ℕ → List ℕ → Type 0) (only_now : (disk : D) (c : List ℕ) → left_since disk (moment disk) c → may_leave disk c)
     (n : Noted C D) (way : UnderWay) (marks : Vec Mark Global) where
-  pub mark_refused : (result : Result (Unit {0}) NotedStop) (given stop : NotedStop) → result ≡ Err given → given ≡ stop → (stop ≡ LogFull → ⊥) → (history : HistoryState) →
+  pub mark_refused : (result : Result (Unit {0}) NotedStop) (given stop : NotedStop) → result ≡ Err given → given ≡ stop → (stop ≡ LogFull → ⊥) → (stop ≡ MetaFailed → ⊥) → (history : HistoryState) →
       WayMade seen may_leave moment left_since result n way (record n { marks = marks }) history history
-  mark_refused result given stop e same other =
+  mark_refused result given stop e same other quiet =
       let old : Noted C D = record n { under_way = Some way } in
       let new : Noted C D = record n { marks = marks } in
       way_stops seen may_leave moment left_since n new way
@@ -155,3 +178,4 @@ module _ {C D : Type 0} (seen : D → List ℕ) (may_leave : D → List ℕ → 
         counted = doing_counted seen may_leave old way history w least d;
         leaves = λ c left. (d.keeps.image, ap recovered (d.keeps.rests.durable c left) ∙ d.keeps.says, doing_found seen may_leave old way history w least d);
       })
+      (λ history w least d failed. absurd (quiet failed))

@@ -1,5 +1,5 @@
 -- How the actions of an entry go on, record by record, and what they cost metadata.
-use Rattle.std.proofs.Common.{◌≡◌, ℕ, ◌+◌, ◌==◌, Bool, true, false, cond, List, [], ◌∷◌, ◌++◌, length, Option, Some, None, refl, sym, ap, subst, ◌∙◌, length-append, arith}
+use Rattle.std.proofs.Common.{◌≡◌, ℕ, ◌+◌, ◌==◌, ◌≤◌, Bool, true, false, cond, List, [], ◌∷◌, ◌++◌, length, Option, Some, None, refl, sym, ap, subst, ◌∙◌, length-append, arith}
 use Rattle.std.specs.List.{list_any}
 use Rattle.std.proofs.lemmas.Grind.{fold-append}
 use Rattle.std.proofs.lemmas.List.{append_assoc, append-nil}
@@ -15,7 +15,8 @@ use Rattle.fc_kept.specs.Images.{kept_in}
 use Rattle.fc_kept.specs.Kept.{rows_kept}
 use Rattle.fc_kept.specs.Prefix.{AreStepsOf}
 use Rattle.fc_legal.specs.Whole.{Whole}
-use Rattle.fc_marks.specs.Meter.{Meter, with_record}
+use Rattle.fc_marks.proofs.Counting.{costs_least}
+use Rattle.fc_marks.specs.Meter.{Meter, with_fold, with_record}
 use Rattle.fc_noted.specs.Metered.{Acted, GoesInto, GoesInto.first as into_first, GoesInto.tears as into_tears, SoFar, SoFar.behind, SoFar.marked, SoFar.waits, SoFar.stopped, SoFar.tears, actions_stopped, after_action, after_actions, rows_behind, rows_by_action}
 use Rattle.fc_rules.specs.Steps.{DiskStep}
 use Rattle.fc_steps.specs.StepsEnd.{torn_in}
@@ -43,6 +44,18 @@ rows_more rows actions more = fold-append rows_by_action rows actions more
 
 pub noted_rows : (rows now : List Row) (actions : List Action) (note : MetaRecord) → rows_behind rows actions ≡ now → rows_behind rows (actions ++ Note note ∷ []) ≡ rows_kept now note
 noted_rows rows now actions note e = rows_more rows actions (Note note ∷ []) ∙ ap (λ (z : List Row). rows_kept z note) e
+
+-- none makes it fewer calls
+pub calls_grow : (half : ℕ) (m : Meter) (actions : List Action) → m.calls ≤ (after_actions half m actions).calls
+calls_grow half m [] = omega arith
+calls_grow half m (Data step ∷ rest) = calls_grow half m rest
+calls_grow half m (Note note ∷ rest) =
+    let one = costs_least half note m in
+    let more = calls_grow half (with_record half note m) rest in
+    omega (arith, one, more)
+calls_grow half m (Fold ∷ rest) =
+    let more : m.calls + 6 ≤ (after_actions half (with_fold m.image m) rest).calls = calls_grow half (with_fold m.image m) rest in
+    omega (arith, more)
 
 -- Those that call the disk of metadata: data don't.
 abbrev pub on_metadata : List Action → List Action

@@ -12,10 +12,12 @@ use Rattle.fc_legal.specs.Whole.{Whole}
 use Rattle.fc_marks.specs.declared.error.NotedStop.TheVariants.{NoMemory as WantsMemory}
 use Rattle.fc_marks.specs.declared.error.NotedStop.{NotedStop}
 use Rattle.fc_meta.proofs.Moments.{weaker}
+use Rattle.fc_metadisk.specs.Disk.{LeavesOnly}
 use Rattle.fc_noted.proofs.Begun.{at_rest}
+use Rattle.fc_noted.proofs.CallsMade.{counts_still}
 use Rattle.fc_noted.proofs.Counting.{has_counted}
 use Rattle.fc_noted.proofs.Moments.{hold_either, resting_found, still_leaves}
-use Rattle.fc_noted.specs.Making.{StepMade}
+use Rattle.fc_noted.specs.Making.{CountsInto, StepMade}
 use Rattle.fc_noted.specs.Noted.{GoesOnTo, IsAt, IsAtBy, IsNotedAt, Logs, Stays}
 use Rattle.fc_noted.specs.Stopping.{HasStopped, LeavesRecoverable, MayBeRecovered}
 use Rattle.fc_noted.specs.declared.noted.Noted.{Noted}
@@ -47,6 +49,15 @@ module _ {C D : Type 0} (seen : D → List ℕ) (may_leave : D → List ℕ → 
   abbrev on_script : Noted C D
   on_script = record old { script = script }
 
+  -- the script alone is another: the disk of metadata is left alone
+  still_on : (room : length before.entries ≤ 262144) (w : Whole) (least : List Row) → IsAt seen may_leave old before w least → LeavesOnly moment left_since old.meta.disk old.meta.disk (LeavesRecoverable old on_script w least)
+  still_on room w least at =
+      let h = at_rest seen may_leave old before w least idle at in
+      let few : w.entries ≤ 262144 = subst (λ (k : ℕ). k ≤ 262144) (sym h.told.1.entries) room in
+      let m = resting_found seen may_leave old before w least h few in
+      still_leaves seen may_leave moment left_since only_now old on_script w least h.keeps.image refl h.keeps.says h.keeps.rests.durable
+      (hold_either old.store old.store old.script old.named w least h.keeps.image refl m m)
+
   -- ---- the script went on
 
   module _ (goes : (w : Whole) → StandsFor old.store w → GoesOn old.store.control.grain w (agenda_of old.store.control.grain old.script) (agenda_of old.store.control.grain script))
@@ -72,6 +83,7 @@ module _ {C D : Type 0} (seen : D → List ℕ) (may_leave : D → List ℕ → 
             volumes = k.volumes;
             matches = k.matches;
           };
+          counts = counts_still seen may_leave old (record old { script = script }) before.entries w refl refl refl h.counts;
         }
 
     script_at : (w : Whole) (least : List Row) → IsAt seen may_leave old before w least → IsNotedAt seen may_leave (record old { script = script }) before w least
@@ -130,6 +142,21 @@ module _ {C D : Type 0} (seen : D → List ℕ) (may_leave : D → List ℕ → 
       stopped_behind : HasStopped may_leave on_script new w least → HasStopped may_leave old new w least
       stopped_behind s = record { volumes = s.volumes; counted = s.counted; leaves = λ c may. let l = s.leaves c may in (l.0, l.1, found_behind new.store.lanes new.named l.0 l.2) }
 
+      into_behind : CountsInto seen on_script new before w → CountsInto seen old new before w
+      into_behind i =
+          record {
+            request = i.request;
+            asking = i.asking;
+            reached = goes_then g w (agenda_of g old.script) (agenda_of g script) (agenda_of g i.asking) (goes_there w least at) i.reached;
+            asked = i.asked;
+            meter = i.meter;
+            metered = i.metered;
+            paid = i.paid;
+            into = i.into;
+            goes = i.goes;
+            calls = i.calls;
+          }
+
     made_by : (result : Result Bool NotedStop) (new : Noted C D) (after : HistoryState) → StepMade seen may_leave moment left_since result on_script new before after → StepMade seen may_leave moment left_since result old new before after
     made_by (Ok more) new after s =
         record {
@@ -138,6 +165,7 @@ module _ {C D : Type 0} (seen : D → List ℕ) (may_leave : D → List ℕ → 
               weaker moment left_since old.meta.disk new.meta.disk (LeavesRecoverable on_script new w least) (LeavesRecoverable old new w least) (moment_behind new after w least at) (s.any_moment w least (script_is_at w least at));
           stopped = tt;
           full = s.full;
+          into = λ f w least at. into_behind new after w least at (s.into f w least (script_is_at w least at));
         }
     made_by (Err stop) new after s =
         record {
@@ -148,6 +176,7 @@ module _ {C D : Type 0} (seen : D → List ℕ) (may_leave : D → List ℕ → 
               let x = s.stopped w least (script_is_at w least at) in
               (x.0, stopped_behind new after w least at x.1);
           full = s.full;
+          into = λ f w least at. into_behind new after w least at (s.into f w least (script_is_at w least at));
         }
 
     pub made_behind : (result : Result Bool NotedStop) (new : Noted C D) (after : HistoryState) → StepMade seen may_leave moment left_since result (record old { script = script }) new before after →
@@ -164,14 +193,10 @@ module _ {C D : Type 0} (seen : D → List ℕ) (may_leave : D → List ℕ → 
           on = λ w least at.
               let h = at_rest seen may_leave old before w least idle at in
               (record { same = refl; live = live; grain = refl; at = script_is_at w least at; goes = goes_there w least at }, none w h.told.0);
-          any_moment = λ w least at.
-              let h = at_rest seen may_leave old before w least idle at in
-              let few : w.entries ≤ 262144 = subst (λ (k : ℕ). k ≤ 262144) (sym h.told.1.entries) room in
-              let m = resting_found seen may_leave old before w least h few in
-              still_leaves seen may_leave moment left_since only_now old on_script w least h.keeps.image refl h.keeps.says h.keeps.rests.durable
-              (hold_either old.store old.store old.script old.named w least h.keeps.image refl m m);
+          any_moment = still_on room;
           stopped = tt;
           full = λ f. absurd cc;
+          into = λ f. absurd cc;
         }
 
   -- memory was wanted, and nothing is said of the script
@@ -179,12 +204,7 @@ module _ {C D : Type 0} (seen : D → List ℕ) (may_leave : D → List ℕ → 
   wanted_next room =
       record {
         on = tt;
-        any_moment = λ w least at.
-            let h = at_rest seen may_leave old before w least idle at in
-            let few : w.entries ≤ 262144 = subst (λ (k : ℕ). k ≤ 262144) (sym h.told.1.entries) room in
-            let m = resting_found seen may_leave old before w least h few in
-            still_leaves seen may_leave moment left_since only_now old on_script w least h.keeps.image refl h.keeps.says h.keeps.rests.durable
-            (hold_either old.store old.store old.script old.named w least h.keeps.image refl m m);
+        any_moment = still_on room;
         stopped = λ w least at.
             let h = at_rest seen may_leave old before w least idle at in
             let few : w.entries ≤ 262144 = subst (λ (k : ℕ). k ≤ 262144) (sym h.told.1.entries) room in (
@@ -196,4 +216,5 @@ module _ {C D : Type 0} (seen : D → List ℕ) (may_leave : D → List ℕ → 
               },
             );
         full = λ f. absurd cc;
+        into = λ f. absurd cc;
       }

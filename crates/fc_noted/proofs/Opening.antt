@@ -1,5 +1,5 @@
 -- A noted store as it begins: without volumes, over disks without names.
-use Rattle.std.proofs.Common.{◌≡◌, ℕ, zero, suc, ◌^◌, ◌<◌, ◌≤◌, Bool, true, false, cond, not, None, List, [], ◌∷◌, length, map, filter, get_or, All, Contains, inl, inr, refl, sym, ap, subst, ◌∙◌, arith}
+use Rattle.std.proofs.Common.{◌≡◌, ℕ, zero, suc, ◌^◌, ◌<◌, ◌≤◌, Bool, true, false, cond, not, None, List, [], ◌∷◌, length, map, filter, get_or, replicate, All, Contains, inl, inr, refl, sym, ap, subst, ◌∙◌, arith}
 use Rattle.std.specs.List.{count_by}
 use Rattle.std.proofs.lemmas.List.{get_or-map, length-map}
 use Rattle.std.proofs.lemmas.List.FromFn.{get_or-map-range_with_len, length-map-range_with_len}
@@ -33,14 +33,15 @@ use Rattle.fc_lanes.specs.Dealing.{Begin, all_dealt, dealt, pools_dealt}
 use Rattle.fc_lanes.proofs.Dealing.{few_dealt}
 use Rattle.fc_legal.specs.Whole.{Whole, opened, pool_at}
 use Rattle.fc_marks.specs.Stops.{stop_of_meta}
-use Rattle.fc_marks.specs.declared.error.NotedStop.TheVariants.{LogFull}
+use Rattle.fc_marks.specs.declared.error.NotedStop.TheVariants.{LogFull, MetaFailed}
 use Rattle.fc_mdisk.specs.Disk.{DiskState, IsFresh, is_flat}
 use Rattle.fc_meta.proofs.Moments.{weaker}
-use Rattle.fc_meta.specs.Answers.{LeavesEither}
+use Rattle.fc_meta.proofs.Opening.{blank}
+use Rattle.fc_meta.specs.Answers.{LeavesEither, more_calls}
 use Rattle.fc_meta.specs.declared.error.MetaError.TheVariants.{Failed, Full, NoMemory}
 use Rattle.fc_meta.specs.declared.error.MetaError.{MetaError}
-use Rattle.fc_meta.specs.States.{IsResting, found}
-use Rattle.fc_metadisk.specs.Disk.{LeavesOnly}
+use Rattle.fc_meta.specs.States.{IsResting, found, used_of}
+use Rattle.fc_metadisk.specs.Disk.{LeavesOnly, Only}
 use Rattle.fc_rules.specs.LaneTold.{LaneOf}
 use Rattle.fc_script.specs.Asking.{Fits}
 use Rattle.fc_script.specs.declared.script.Script.{Script}
@@ -56,7 +57,10 @@ use Rattle.fc_held.proofs.Holding.{no_name}
 use Rattle.fc_held.proofs.Naming.{with_name, without_names}
 use Rattle.law_noted.specs.Runs.{HasRun}
 use Rattle.fc_marks.specs.Marks.{marked}
+use Rattle.fc_marks.specs.Meter.{filled_size}
 use Rattle.fc_marks.specs.declared.marks.Mark.{Mark}
+use Rattle.fc_noted.proofs.CallsMade.{counts_still}
+use Rattle.fc_noted.specs.Metered.{Metered.opened as opened_meter}
 use Rattle.fc_noted.specs.Noted.{BeginsOver, IsNotedAt, NoHistory}
 use Rattle.fc_noted.specs.Stopping.{LeavesFirst}
 use Rattle.fc_noted.specs.declared.noted.Noted.{Noted}
@@ -258,6 +262,8 @@ pub record HasBegun {C D : Type 0} (seen : D → List ℕ) (may_leave : D → Li
   pub unmarked : n.marks.items ≡ []
   pub over : n.script ≡ Over
   pub idle : n.under_way ≡ None
+  pub used : used_of n.meta ≡ filled_size image
+  pub called : n.calls ≡ more_calls 4 0
 
 pub begins : {C D : Type 0} (seen : D → List ℕ) (may_leave : D → List ℕ → Type 0) (lanes : ℕ) (disks : List DiskState) (n : Noted C D) → HasBegun seen may_leave lanes disks n →
     IsNotedAt seen may_leave n NoHistory (opened (pools_dealt lanes disks)) []
@@ -281,6 +287,12 @@ begins seen may_leave lanes disks n h =
         named = h.named ∙ ap (λ (i : MetaImage). i.next_volume) h.empty;
         volumes = have_volumes grain lanes disks n.store.lanes h.begin n.disks n.store refl none h.count;
         matches = match_begun grain lanes disks n.store.lanes h.begin n.named;
+      };
+      counts = record {
+        meter = record { image = h.image; used = filled_size h.image; calls = 4 };
+        metered = opened_meter (opened (pools_dealt lanes disks)) h.image refl (ap kept_in h.empty);
+        is = record { image = h.says; used = h.used };
+        calls = h.called;
       };
     }
 
@@ -308,10 +320,21 @@ module _ {D : Type 0} (moment : D → ℕ) (left_since : D → ℕ → List ℕ 
       either c (inl none) = inl none
       either c (inr some) = inr (i, some, subst IsSoundImage (sym empty) (first_sound K64), ap kept_in empty)
 
+  -- a disk that isn't called
+  pub leaves_untouched : (seen : D → List ℕ) (may_leave : D → List ℕ → Type 0) → ((disk : D) (c : List ℕ) → left_since disk (moment disk) c → may_leave disk c) → (disk : D) →
+      seen disk ≡ replicate (length (seen disk)) 0 → Only (seen disk) (may_leave disk) → LeavesOnly moment left_since disk disk LeavesFirst
+  leaves_untouched seen may_leave only_now disk zeros synced =
+      leaves_first disk disk (meta_of nothing_kept) refl (blank seen may_leave moment left_since only_now disk (meta_of nothing_kept) zeros synced)
+
 pub not_log : (e : MetaError) → stop_of_meta e ≡ LogFull → ⊥
 not_log Failed is = cc
 not_log NoMemory is = cc
 not_log Full is = cc
+
+pub was_failed : (e : MetaError) → stop_of_meta e ≡ MetaFailed → e ≡ Failed
+was_failed Failed is = refl
+was_failed NoMemory is = absurd cc
+was_failed Full is = absurd cc
 
 -- ---- with another script
 
@@ -336,4 +359,5 @@ with_script seen may_leave n script history w least fits at =
         volumes = at.keeps.volumes;
         matches = at.keeps.matches;
       };
+      counts = counts_still seen may_leave n (record n { script = script }) history.entries w refl refl refl at.counts;
     }

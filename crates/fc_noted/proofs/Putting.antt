@@ -24,7 +24,7 @@ use Rattle.fc_metadisk.specs.Disk.{LeavesOnly}
 use Rattle.fc_noted.proofs.Fitting.{IsFit}
 use Rattle.fc_noted.proofs.InHand.{doing_counted, stands_recovered}
 use Rattle.fc_noted.proofs.Tidying.{ids_with, image_with}
-use Rattle.fc_noted.specs.Noted.{IsDoing, Keeps}
+use Rattle.fc_noted.specs.Noted.{CountsSoFar, IsDoing, Keeps}
 use Rattle.fc_noted.specs.Stopping.{AreCounted, HasStopped, LeavesRecoverable, MayBeRecovered, MayHold}
 use Rattle.fc_noted.specs.declared.noted.Noted.{Noted}
 use Rattle.fc_noted.specs.declared.noted.UnderWay.{UnderWay}
@@ -63,12 +63,13 @@ module _ {C D : Type 0} (seen : D → List ℕ) (may_leave : D → List ℕ → 
       }
 
   -- the entry, where its steps are as they were
-  pub put_doing : (old : Noted C D) (way : UnderWay) (history : HistoryState) (w : Whole) (least : List Row) (x : MetaRecord) (meta : Meta D) (marks : Vec Mark Global) (d : IsDoing seen may_leave old way history w least) →
+  pub put_doing : (old : Noted C D) (way : UnderWay) (history : HistoryState) (w : Whole) (least : List Row) (x : MetaRecord) (meta : Meta D) (calls : ℕ) (marks : Vec Mark Global) (d : IsDoing seen may_leave old way history w least) →
       IsInHand d.begun.control.grain w least way.place way.doing (lane_in d.begun way.place) (lane_in old.store way.place) d.steps d.before None (noted x d.point) →
       let way_new : UnderWay = record { place = way.place; doing = way.doing; due = None } in
-      let new : Noted C D = record old { meta = meta; marks = marks; under_way = Some way_new } in
-      Keeps seen may_leave d.begun.control.grain meta new w None (noted x d.point) → IsDoing seen may_leave new way_new history w least
-  put_doing old way history w least x meta marks d h keeps =
+      let new : Noted C D = record old { meta = meta; calls = calls; marks = marks; under_way = Some way_new } in
+      Keeps seen may_leave d.begun.control.grain meta new w None (noted x d.point) →
+      CountsSoFar seen may_leave d.begun.control.grain new way_new history.entries w d.steps d.before.kept.rows (noted x d.point).kept.rows → IsDoing seen may_leave new way_new history w least
+  put_doing old way history w least x meta calls marks d h keeps counts =
       record {
         begun = d.begun;
         few = d.few;
@@ -88,6 +89,7 @@ module _ {C D : Type 0} (seen : D → List ℕ) (may_leave : D → List ℕ → 
         point = noted x d.point;
         came = h.came;
         keeps = keeps;
+        counts = counts;
       }
 
 -- ---- at each moment
@@ -154,14 +156,14 @@ module _ {C D : Type 0} (seen : D → List ℕ) (may_leave : D → List ℕ → 
       let both = put_says d.keeps.image d.point.kept x d.keeps.sound d.keeps.kept fit in
       by_grain n.store.lanes (after_record d.keeps.image x) (recovers (after_record d.keeps.image x) both.0 both.1)
 
-  module _ (moment : D → ℕ) (left_since : D → ℕ → List ℕ → Type 0) (counts_now : (disk : D) (t : ℕ) (c : List ℕ) → t ≤ moment disk → may_leave disk c → left_since disk t c) (meta : Meta D) (marks : Vec Mark Global)
+  module _ (moment : D → ℕ) (left_since : D → ℕ → List ℕ → Type 0) (counts_now : (disk : D) (t : ℕ) (c : List ℕ) → t ≤ moment disk → may_leave disk c → left_since disk t c) (meta : Meta D) (calls : ℕ) (marks : Vec Mark Global)
       (run : LeavesOnly moment left_since n.meta.disk meta.disk (LeavesEither (found seen n.meta) (found_with (found seen n.meta) (x ∷ [])))) where
-    pub way_leaves : (next : Option UnderWay) → LeavesOnly moment left_since n.meta.disk meta.disk (LeavesRecoverable (record n { under_way = Some way }) (record n { meta = meta; marks = marks; under_way = next }) w least)
+    pub way_leaves : (next : Option UnderWay) → LeavesOnly moment left_since n.meta.disk meta.disk (LeavesRecoverable (record n { under_way = Some way }) (record n { meta = meta; calls = calls; marks = marks; under_way = next }) w least)
     way_leaves next =
-        put_leaves seen may_leave moment left_since counts_now old (record n { meta = meta; marks = marks; under_way = next }) w least d.keeps.image x d.keeps.says run
+        put_leaves seen may_leave moment left_since counts_now old (record n { meta = meta; calls = calls; marks = marks; under_way = next }) w least d.keeps.image x d.keeps.says run
         (hold_both n.store n.store n.script n.named w least d.keeps.image x refl recovers_without recovers_with)
 
-    pub way_stopped : HasStopped may_leave (record n { under_way = Some way }) (record n { meta = meta; marks = marks }) w least
+    pub way_stopped : HasStopped may_leave (record n { under_way = Some way }) (record n { meta = meta; calls = calls; marks = marks }) w least
     way_stopped =
-        put_stops seen may_leave moment left_since counts_now old (record n { meta = meta; marks = marks }) w least d.keeps.image x d.keeps.says run d.keeps.volumes (doing_counted seen may_leave old way history w least d)
+        put_stops seen may_leave moment left_since counts_now old (record n { meta = meta; calls = calls; marks = marks }) w least d.keeps.image x d.keeps.says run d.keeps.volumes (doing_counted seen may_leave old way history w least d)
         recovers_without recovers_with

@@ -1,7 +1,7 @@
 -- A refusal is logged: the history leads on with it, and all stands as it stood.
-use Rattle.std.proofs.Common.{◌≡◌, ℕ, ◌<◌, ◌≤◌, true, None, List, [], ◌∷◌, ◌++◌, length, Result, OnOk, OnErr, IfErr, refl, sym, subst, ◌∙◌, arith}
+use Rattle.std.proofs.Common.{◌≡◌, ℕ, ◌<◌, true, None, List, [], ◌∷◌, ◌++◌, length, Result, OnOk, OnErr, IfErr, refl, sym, subst, ◌∙◌, arith}
 use Rattle.fc_base.specs.declared.fault.Refusal.{Refusal}
-use Rattle.fc_base.specs.declared.request.Place.TheVariants.{Control}
+use Rattle.fc_base.specs.declared.request.Place.TheVariants.{Control, Every}
 use Rattle.fc_base.specs.declared.request.Reply.TheVariants.{Refused}
 use Rattle.fc_base.specs.declared.request.Request.TheVariants.{Write}
 use Rattle.fc_base.specs.declared.request.Request.{Request}
@@ -19,6 +19,7 @@ use Rattle.fc_noted.proofs.Counting.{has_counted}
 use Rattle.fc_noted.proofs.Still.{LeadsStill, still_made}
 use Rattle.fc_noted.specs.Making.{GoesBehind, StepMade, always}
 use Rattle.fc_noted.specs.declared.noted.Noted.{Noted}
+use Rattle.fc_rules.specs.LaneRight.{done_write}
 use Rattle.fc_script.specs.Script.{agenda_of}
 use Rattle.fc_script.specs.declared.script.Script.{Script}
 use Rattle.fc_stands.proofs.Turning.{by_request, one_more_stands}
@@ -32,6 +33,11 @@ use Rattle.law_crash.specs.Running.{refused}
 writes_none : (grain : GrainSize) (w : Whole) (request : Request) (refusal : Refusal) → IsRefusalOf grain w request refusal → asked_write request ≡ None
 writes_none grain w (Write part) refusal is = absurd is
 writes_none grain w request refusal is = refl
+
+-- nor is one done
+none_done : (request : Request) (refusal : Refusal) → done_write request (Refused refusal) ≡ None
+none_done (Write part) refusal = refl
+none_done request refusal = refl
 
 abbrev pub refused_at : ℕ → Request → Refusal → Entry
 refused_at number request refusal = entry_apart number 0 Control request (Refused refusal) []
@@ -66,6 +72,8 @@ refused_leads s w least p number request refusal stands counted is =
       least_next = least;
       turn = refused_turn s w number request refusal stands counted is;
       does = refused (writes_none s.control.grain w request refusal is);
+      tells = record { request_is = refl; written = none_done request refusal; moves = refl; torn_is = refl; no_effects = refl };
+      not_every = λ every. let q : Control ≡ Every = every in cc;
       pools = refl;
       rows = refl;
     }

@@ -1,5 +1,5 @@
 -- Between two entries, what stands on metadata's disk may be recovered with whatever disks the lanes give back.
-use Rattle.std.proofs.Common.{◌≡◌, ℕ, ◌≤◌, Option, None, List, sym, subst}
+use Rattle.std.proofs.Common.{ℕ, ◌≤◌, Option, None, List, sym, subst}
 use Rattle.fc_base.specs.declared.request.Request.{Request}
 use Rattle.fc_base.specs.declared.size.GrainSize.{GrainSize}
 use Rattle.fc_changed.specs.Row.{Row}

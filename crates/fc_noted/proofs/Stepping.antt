@@ -5,18 +5,21 @@ use Rattle.fc_agenda.specs.Goes.{stays}
 use Rattle.fc_base.specs.declared.size.GrainSize.{GrainSize}
 use Rattle.fc_changed.specs.Row.{Row}
 use Rattle.fc_entry.specs.HistoryState.{HistoryState}
+use Rattle.fc_legal.specs.Agenda.{Asks}
 use Rattle.fc_legal.specs.Whole.{Whole}
-use Rattle.fc_marks.specs.declared.error.NotedStop.TheVariants.{LogFull}
+use Rattle.fc_marks.specs.declared.error.NotedStop.TheVariants.{LogFull, MetaFailed}
 use Rattle.fc_marks.specs.declared.error.NotedStop.{NotedStop}
 use Rattle.fc_metadisk.specs.Disk.{LeavesOnly}
-use Rattle.fc_noted.specs.Making.{StepMade, WayMade, done}
+use Rattle.fc_noted.specs.Making.{CountsInto, StepMade, WayMade, done}
 use Rattle.fc_noted.specs.Noted.{IsAtBy, IsDoing}
-use Rattle.fc_noted.specs.Stopping.{HasStopped, LeavesRecoverable}
+use Rattle.fc_noted.specs.Stopping.{AsksSome, HasStopped, LeavesRecoverable}
 use Rattle.fc_noted.specs.declared.noted.Noted.{Noted}
 use Rattle.fc_noted.specs.declared.noted.UnderWay.{UnderWay}
 use Rattle.fc_script.specs.Passage.{GoesOn}
 use Rattle.fc_script.specs.Script.{agenda_of}
 use Rattle.fc_script.specs.declared.script.Script.{Script}
+use Rattle.fc_stands.specs.Store.{StoreView}
+use Rattle.fc_steps.specs.Asking.{request_of}
 
 module _ {C D : Type 0} (seen : D → List ℕ) (may_leave : D → List ℕ → Type 0) (moment : D → ℕ) (left_since : D → ℕ → List ℕ → Type 0) (old new : Noted C D) (before after : HistoryState) where
   -- the entry that is under way is this one
@@ -42,6 +45,9 @@ module _ {C D : Type 0} (seen : D → List ℕ) (may_leave : D → List ℕ → 
             let x = made.stopped w least at in
             (x.0, record { volumes = x.1.volumes; counted = x.1.counted; leaves = x.1.leaves });
         full = made.full;
+        into = λ f w least at.
+            let x = made.into f w least at in
+            record { request = x.request; asking = x.asking; reached = x.reached; asked = x.asked; meter = x.meter; metered = x.metered; paid = x.paid; into = x.into; goes = x.goes; calls = x.calls };
       }
 
   pub step_ended : (result : Result Bool NotedStop) → is_err result ≡ true → StepMade seen may_leave moment left_since result old new before after →
@@ -51,11 +57,21 @@ module _ {C D : Type 0} (seen : D → List ℕ) (may_leave : D → List ℕ → 
 
 -- ---- with the entry that was taken out
 
+-- what it is of is asked next
+pub doing_asked : {C D : Type 0} (seen : D → List ℕ) (may_leave : D → List ℕ → Type 0) (n : Noted C D) (way : UnderWay) (history : HistoryState) (w : Whole) (least : List Row) → IsDoing seen may_leave n way history w least →
+    Asks n.store.control.grain (agenda_of n.store.control.grain n.script) w (0, request_of way.doing.steps.ask)
+doing_asked seen may_leave n way history w least d =
+    subst (λ (g : GrainSize). Asks g (agenda_of g n.script) w (0, request_of way.doing.steps.ask)) (sym (ap (λ (s : StoreView). s.control.grain) d.since)) d.asked
+
+pub doing_asks : {C D : Type 0} (seen : D → List ℕ) (may_leave : D → List ℕ → Type 0) (n : Noted C D) (way : UnderWay) (history : HistoryState) (w : Whole) (least : List Row) → IsDoing seen may_leave n way history w least →
+    AsksSome n.store.control.grain n.script w
+doing_asks seen may_leave n way history w least d = (n.script, request_of way.doing.steps.ask, λ read. stays, doing_asked seen may_leave n way history w least d)
+
 abbrev refused : NotedStop → Result Bool NotedStop
 refused stop = Err stop
 
 -- an error is the one that is answered
-pub same_stop : (stop : NotedStop) → IsErrOf (refused stop) LogFull → stop ≡ LogFull
+pub same_stop : (stop : NotedStop) {told : NotedStop} → IsErrOf (refused stop) told → stop ≡ told
 same_stop stop e = cc
 
 module _ {C D : Type 0} (seen : D → List ℕ) (may_leave : D → List ℕ → Type 0) (moment : D → ℕ) (left_since : D → ℕ → List ℕ → Type 0) (n new : Noted C D) (way : UnderWay)
@@ -77,17 +93,20 @@ module _ {C D : Type 0} (seen : D → List ℕ) (may_leave : D → List ℕ → 
         any_moment = leaves history;
         stopped = tt;
         full = λ f. absurd cc;
+        into = λ f. absurd cc;
       }
 
   -- or it stopped
   pub way_stops : (result : Result (Unit {0}) NotedStop) (given stop : NotedStop) → result ≡ Err given → given ≡ stop → (stop ≡ LogFull → ⊥) →
       ((history : HistoryState) (w : Whole) (least : List Row) → IsDoing seen may_leave (record n { under_way = Some way }) way history w least → HasStopped may_leave (record n { under_way = Some way }) new w least) →
+      ((history : HistoryState) (w : Whole) (least : List Row) → IsDoing seen may_leave (record n { under_way = Some way }) way history w least → stop ≡ MetaFailed → CountsInto seen (record n { under_way = Some way }) new history w) →
       (history : HistoryState) → WayMade seen may_leave moment left_since result n way new history history
-  way_stops result given stop e same other stops history =
+  way_stops result given stop e same other stops into history =
       subst (λ (z : Result (Unit {0}) NotedStop). WayMade seen may_leave moment left_since z n way new history history) (sym (e ∙ ap (λ (z : NotedStop). Err z) same))
       (record {
         on = tt;
         any_moment = leaves history;
         stopped = λ w least d. (refl, stops history w least d);
         full = λ f. absurd (other (same_stop stop f));
+        into = λ f w least d. into history w least d (same_stop stop f);
       })

@@ -1,10 +1,11 @@
 -- An entry by which the disks stand as they stood is logged: the history leads on with it.
-use Rattle.std.proofs.Common.{◌≡◌, ℕ, ◌<◌, ◌≤◌, true, Option, None, List, [], ◌∷◌, ◌++◌, length, Result, Ok, Err, OnOk, OnErr, IfErr, Contains, refl, sym, ap, subst, ◌∙◌, inr, arith}
+use Rattle.std.proofs.Common.{◌≡◌, ◌≢◌, ℕ, ◌<◌, ◌≤◌, true, Option, None, List, [], ◌∷◌, ◌++◌, length, Result, Ok, Err, OnOk, OnErr, IfErr, Contains, refl, sym, ap, subst, ◌∙◌, inr, arith}
 use Rattle.std.specs.List.{filter, fold}
 use Rattle.std.proofs.lemmas.List.{length-append}
 use Rattle.fc_agenda.specs.Goes.{stays}
 use Rattle.fc_base.specs.Pools.{Pool, of_kind}
 use Rattle.fc_base.specs.Tables.{Tables}
+use Rattle.fc_base.specs.declared.request.Place.TheVariants.{Every}
 use Rattle.fc_base.specs.declared.request.Request.{Request}
 use Rattle.fc_base.specs.declared.size.GrainSize.{GrainSize}
 use Rattle.fc_changed.specs.Row.{Row, after_note}
@@ -30,7 +31,9 @@ use Rattle.fc_metadisk.specs.Disk.{LeavesOnly}
 use Rattle.fc_noted.proofs.Begun.{at_rest}
 use Rattle.fc_noted.proofs.Moments.{hold_either, resting_found, still_leaves}
 use Rattle.fc_noted.proofs.Safe.{as_it_was}
+use Rattle.fc_meta.specs.States.{room_of}
 use Rattle.fc_noted.specs.Making.{GoesBehind, StepMade, always}
+use Rattle.fc_noted.specs.Metered.{AreActionsOf.still, Metered, Metered.access}
 use Rattle.fc_noted.specs.Noted.{IsAt, IsAtBy, IsNotedAt}
 use Rattle.fc_noted.specs.Stopping.{AreCounted, LeavesRecoverable, MayBeRecovered, MoreFailed}
 use Rattle.fc_noted.specs.declared.noted.Noted.{Noted}
@@ -55,18 +58,22 @@ pub record LeadsStill (Stands : Whole → Type 0) (grain : GrainSize) (w : Whole
   pub least_next : List Row
   pub turn : IsTurn Stands grain w request entry next
   pub does : Does grain w least p entry next least_next p
+  pub tells : Tells entry.request None [] None entry
+  pub not_every : entry.place ≢ Every
   pub pools : next.books.pools ≡ w.books.pools
   pub rows : next.rows ≡ w.rows
 
 -- As an access that tells of no step.
 pub access_leads : (Stands : Whole → Type 0) (grain : GrainSize) (w : Whole) (least : List Row) (p : Point) (request : Request) (entry : Entry) (i : ℕ) → IsTurn Stands grain w request entry (after_access grain w i entry) →
-    Tells entry.request None [] None entry → LeadsStill Stands grain w least p request entry
-access_leads Stands grain w least p request entry i turn tells =
+    Tells entry.request None [] None entry → entry.place ≢ Every → LeadsStill Stands grain w least p request entry
+access_leads Stands grain w least p request entry i turn tells not_every =
     record {
       next = after_access grain w i entry;
       least_next = least_entry (single_lane grain) least entry;
       turn = turn;
       does = read i tells;
+      tells = tells;
+      not_every = not_every;
       pools = refl;
       rows = λ k. fold after_note w.rows (write_notes (single_lane grain) (tells.written k) ++ torn_notes (single_lane grain) (tells.torn_is k));
     }
@@ -199,6 +206,16 @@ module _ {C D : Type 0} (seen : D → List ℕ) (may_leave : D → List ℕ → 
                     volumes = hold.volumes;
                     matches = subst (λ (z : GrainSize). MatchAll z old.named h.point.kept store.lanes h.point.disks) (sym stands_grain) hold.matches;
                   };
+                  counts =
+                      let c = h.counts in
+                      let half : ℕ = room_of seen old.meta in
+                      record {
+                        meter = c.meter;
+                        metered = subst (λ (z : GrainSize). Metered z half (history.entries ++ entry ∷ []) leads.next c.meter) (sym stands_grain)
+                            (access history.entries w c.meter entry leads.next [] c.metered leads.turn.step leads.not_every (still leads.tells));
+                        is = c.is;
+                        calls = c.calls;
+                      };
                 }
 
     -- ---- what that makes of a noted store
@@ -236,6 +253,7 @@ module _ {C D : Type 0} (seen : D → List ℕ) (may_leave : D → List ℕ → 
           any_moment = moments script;
           stopped = tt;
           full = λ f. absurd cc;
+          into = λ f. absurd cc;
         }
 
     -- or memory was wanted, and it isn't
@@ -251,6 +269,7 @@ module _ {C D : Type 0} (seen : D → List ℕ) (may_leave : D → List ℕ → 
                 record { volumes = still.volumes; counted = still.counted; leaves = λ c may. (x.keeps.image, ap recovered (x.keeps.rests.durable c may) ∙ x.keeps.says, found_held script w least at) },
               );
           full = λ f. absurd cc;
+          into = λ f. absurd cc;
         }
 
     -- whichever it was

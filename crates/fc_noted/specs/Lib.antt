@@ -3,3 +3,4 @@ pub mod Metered
 pub mod Noted
 pub mod Stopping
 pub mod Making
+pub mod Lines

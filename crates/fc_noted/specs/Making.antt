@@ -1,11 +1,13 @@
 -- What a step makes, and what it leaves.
-use Rattle.std.specs.Prelude.{◌+◌, ◌≡◌, ◌⊎◌, ℕ, ◌≤◌, Bool, true, false, List, [], ◌∷◌, ◌++◌, length, Some, None, Result, Ok, Err, IfOk, OnErr, IsErrOf}
+use Rattle.std.specs.Prelude.{◌+◌, ◌≡◌, ◌⊎◌, ℕ, ◌<◌, ◌≤◌, Bool, true, false, List, [], ◌∷◌, ◌++◌, length, Some, None, Result, Ok, Err, IfOk, OnErr, OnOk, IsErrOf}
 use Rattle.fc_apart.specs.Effects.{IsJoined}
+use Rattle.fc_base.specs.Count.{HasRisen}
 use Rattle.fc_base.specs.declared.command.Command.{Command}
 use Rattle.fc_base.specs.declared.decision.Decision.{Decision}
 use Rattle.fc_base.specs.declared.ids.VolId.{VolId}
 use Rattle.fc_base.specs.declared.request.Effect.{Effect}
 use Rattle.fc_base.specs.declared.request.Place.TheVariants.{Every}
+use Rattle.fc_base.specs.declared.request.Request.{Request}
 use Rattle.fc_base.specs.declared.request.Request.TheVariants.{Command as Asked}
 use Rattle.fc_base.specs.declared.size.GrainSize.{GrainSize}
 use Rattle.fc_changed.specs.Row.{Row}
@@ -19,12 +21,16 @@ use Rattle.fc_kept.specs.Images.{meta_of}
 use Rattle.fc_lane.specs.Lane.{IsSameLane, LaneView}
 use Rattle.fc_lanes.specs.AllLanes.{EachLane}
 use Rattle.fc_legal.specs.Added.{IsTold}
+use Rattle.fc_legal.specs.Agenda.{Asks}
 use Rattle.fc_legal.specs.Lawful.{IsLawful}
 use Rattle.fc_legal.specs.Steps.{Step, left_by}
 use Rattle.fc_legal.specs.Whole.{Whole}
-use Rattle.fc_meta.specs.States.{IsResting, found}
+use Rattle.fc_meta.specs.Answers.{more_calls}
+use Rattle.fc_meta.specs.States.{IsResting, disk_of, found, room_of, used_of}
 use Rattle.fc_metadisk.specs.Disk.{LeavesOnly}
 use Rattle.fc_script.specs.Asking.{IsAnswer, IsLeft}
+use Rattle.fc_script.specs.Passage.{GoesOn}
+use Rattle.fc_script.specs.Script.{agenda_of}
 use Rattle.fc_script.specs.declared.script.Script.{Script}
 use Rattle.fc_stands.specs.Apart.{entry_apart}
 use Rattle.fc_stands.specs.Phase.{StandsAt}
@@ -38,10 +44,12 @@ use Rattle.fc_steps.specs.declared.stepping.Next.TheVariants.{Own}
 use Rattle.fc_store.specs.Stepping.{lane_in}
 use Rattle.law_noted.specs.DataSteps.{Copies}
 use Rattle.fc_marks.specs.Marks.{is_open_any}
-use Rattle.fc_noted.specs.Noted.{GoesOnTo, IsAt, IsNotedAt, Keeps}
+use Rattle.fc_marks.specs.Meter.{Meter, filled_size}
+use Rattle.fc_noted.specs.Metered.{GoesInto, Metered}
+use Rattle.fc_noted.specs.Noted.{Counts, GoesOnTo, IsAt, IsNotedAt, Keeps}
 use Rattle.fc_noted.specs.Stopping.{HasStopped, LeavesRecoverable}
 use Rattle.fc_marks.specs.declared.error.NotedStop.{NotedStop}
-use Rattle.fc_marks.specs.declared.error.NotedStop.TheVariants.{LogFull}
+use Rattle.fc_marks.specs.declared.error.NotedStop.TheVariants.{LogFull, MetaFailed}
 use Rattle.fc_noted.specs.declared.noted.Noted.{Noted}
 use Rattle.fc_noted.specs.declared.noted.UnderWay.{UnderWay}
 
@@ -77,6 +85,32 @@ done = Ok tt
 abbrev pub GoesBehind : GrainSize → (Whole → Type 0) → Script → Entry → Script → Type 0
 GoesBehind grain Stands script entry new = (w next : Whole) → IsAnswer grain script w entry next → Stands next → IsLeft grain script w entry next new
 
+-- ---- calls of the disk of metadata
+
+-- It was called as often as was counted, and never failed; behind an error at most so often. It failed where that is told.
+pub record KeepsCount {T C D : Type 0} (seen : D → List ℕ) (fault_count calls : D → ℕ) (result : Result T NotedStop) (old new : Noted C D) : Type 0 where
+  pub counted : ℕ
+  pub made : ℕ
+  pub count : new.calls ≡ more_calls counted old.calls
+  pub called : calls (disk_of new.meta) ≡ more_calls made (calls (disk_of old.meta))
+  pub within : made ≤ counted
+  pub whole : OnOk result ((made ≡ counted) × (fault_count (disk_of new.meta) ≡ fault_count (disk_of old.meta)))
+  pub failed : IsErrOf result MetaFailed → HasRisen (fault_count (disk_of old.meta)) (fault_count (disk_of new.meta))
+  pub size : room_of seen new.meta ≡ room_of seen old.meta
+
+-- The calls that are counted go as far into a request as it goes that is asked next; those of the entries are counted before.
+pub record CountsInto {C D : Type 0} (seen : D → List ℕ) (old new : Noted C D) (before : HistoryState) (w : Whole) : Type 0 where
+  pub request : Request
+  pub asking : Script
+  pub reached : GoesOn old.store.control.grain w (agenda_of old.store.control.grain old.script) (agenda_of old.store.control.grain asking)
+  pub asked : Asks old.store.control.grain (agenda_of old.store.control.grain asking) w (0, request)
+  pub meter : Meter
+  pub metered : Metered old.store.control.grain (room_of seen old.meta) before.entries w meter
+  pub paid : more_calls meter.calls 0 ≤ old.calls
+  pub into : Meter
+  pub goes : GoesInto old.store.control.grain (room_of seen old.meta) w meter request into
+  pub calls : new.calls ≡ more_calls into.calls 0
+
 -- ---- a step
 
 module _ {C D : Type 0} (seen : D → List ℕ) (may_leave : D → List ℕ → Type 0) (moment : D → ℕ) (left_since : D → ℕ → List ℕ → Type 0) where
@@ -88,6 +122,7 @@ module _ {C D : Type 0} (seen : D → List ℕ) (may_leave : D → List ℕ → 
     pub stopped : OnErr result ((w : Whole) (least : List Row) → IsAt seen may_leave old before w least →
         (after ≡ before) × HasStopped may_leave old new w least)
     pub full : IsErrOf result LogFull → 262144 ≤ length before.entries
+    pub into : IsErrOf result MetaFailed → (w : Whole) (least : List Row) → IsAt seen may_leave old before w least → CountsInto seen old new before w
 
   -- The same of an entry that was taken out of the noted store.
   abbrev pub WayMade : Result (Unit {0}) NotedStop → Noted C D → UnderWay → Noted C D → HistoryState → HistoryState → Type 0
@@ -147,11 +182,13 @@ module _ {C D : Type 0} (seen : D → List ℕ) (may_leave : D → List ℕ → 
     pub after : IsImageAfter old.store d image
     pub named : new.named ≡ image.next_volume
     pub unmarked : new.marks.items ≡ []
+    pub used : used_of new.meta ≡ filled_size image
+    pub calls : new.calls ≡ more_calls 6 old.calls
 
   -- Where there is no action it stays.
   abbrev pub AnewOr : Bool → Decision → Noted C D → Noted C D → Type 0
   AnewOr true d old new = IsAnew d old new
-  AnewOr false d old new = (new.meta ≡ old.meta) × (new.named ≡ old.named) × (new.marks.items ≡ old.marks.items)
+  AnewOr false d old new = (new.meta ≡ old.meta) × (new.named ≡ old.named) × (new.marks.items ≡ old.marks.items) × (new.calls ≡ old.calls)
 
   -- A crash meanwhile leaves what stood, or such an image.
   abbrev pub LeavesAnew : Decision → Noted C D → List ℕ → Type 0
@@ -164,6 +201,14 @@ module _ {C D : Type 0} (seen : D → List ℕ) (may_leave : D → List ℕ → 
     pub point : Point
     pub run : HasRun n.store.control.grain history.entries w least point
     pub keeps : Keeps seen may_leave n.store.control.grain n.meta n w None point
+    pub counts : Counts seen may_leave n history.entries w
+
+  -- It is noted at something, with room for an entry; and what holds wherever it is.
+  abbrev pub IsNotedWithRoom : Noted C D → Type 0
+  IsNotedWithRoom n = (w : Whole) × (least : List Row) × (history : HistoryState) × IsNotedAt seen may_leave n history w least × (length history.entries < 262144)
+
+  abbrev pub WhereverNoted : Noted C D → (HistoryState → Whole → List Row → Type 0) → Type 0
+  WhereverNoted n Holds = (history : HistoryState) (w : Whole) (least : List Row) → length history.entries < 262144 → IsNotedAt seen may_leave n history w least → Holds history w least
 
   -- A command's entry leads on, once it is logged, to what the noted store then stands for.
   abbrev pub LeadsOn : Noted C D → HistoryState → Entry → Noted C D → Type 0

@@ -9,6 +9,7 @@ use Rattle.fc_format.specs.Halves.{Image}
 use Rattle.fc_format.specs.Ranges.{HasGoodIds}
 use Rattle.fc_image.specs.declared.image.MetaImage.{MetaImage}
 use Rattle.fc_image.specs.declared.record.MetaRecord.{MetaRecord}
+use Rattle.fc_kept.specs.Actions.{Action}
 use Rattle.fc_kept.specs.Images.{kept_in}
 use Rattle.fc_kept.specs.Prefix.{AreStepsOf}
 use Rattle.fc_kept.specs.Sound.{IsSoundImage}
@@ -18,7 +19,8 @@ use Rattle.fc_legal.specs.Added.{IsTold}
 use Rattle.fc_legal.specs.Agenda.{Asks}
 use Rattle.fc_legal.specs.Whole.{Whole, opened}
 use Rattle.fc_mdisk.specs.Disk.{DiskState, IsFresh}
-use Rattle.fc_meta.specs.States.{IsResting, found}
+use Rattle.fc_meta.specs.Answers.{more_calls}
+use Rattle.fc_meta.specs.States.{IsResting, found, room_of}
 use Rattle.fc_meta.specs.declared.meta.Meta.{Meta}
 use Rattle.fc_parts.specs.Law.{IsInVolume}
 use Rattle.fc_rules.specs.Steps.{DiskStep}
@@ -35,6 +37,8 @@ use Rattle.law_noted.specs.Records.{kept_by}
 use Rattle.law_noted.specs.Runs.{HasRun}
 use Rattle.fc_held.specs.Held.{HaveVolumes, MatchAll}
 use Rattle.fc_marks.specs.Marks.{marked}
+use Rattle.fc_marks.specs.Meter.{IsMetered, Meter}
+use Rattle.fc_noted.specs.Metered.{Acted, Metered, after_actions}
 use Rattle.fc_noted.specs.declared.noted.Noted.{Noted}
 use Rattle.fc_noted.specs.declared.noted.UnderWay.{UnderWay}
 
@@ -65,6 +69,23 @@ module _ {C D : Type 0} (seen : D → List ℕ) (may_leave : D → List ℕ → 
     pub volumes : HaveVolumes n.disks n.store
     pub matches : MatchAll grain n.named (kept_by due q.kept) n.store.lanes q.disks
 
+  -- The disk of metadata was called as often as the history costs, by the count.
+  pub record Counts (n : Noted C D) (entries : List Entry) (w : Whole) : Type 0 where
+    pub meter : Meter
+    pub metered : Metered n.store.control.grain (room_of seen n.meta) entries w meter
+    pub is : IsMetered seen n.meta meter
+    pub calls : n.calls ≡ more_calls meter.calls 0
+
+  -- And by the actions so far of an entry that is under way, which began with these rows of metadata and led to those.
+  pub record CountsSoFar (grain : GrainSize) (n : Noted C D) (way : UnderWay) (entries : List Entry) (w : Whole) (steps : List DiskStep) (rows now : List Row) : Type 0 where
+    pub before : Meter
+    pub metered : Metered grain (room_of seen n.meta) entries w before
+    pub same : (kept_in before.image).rows ≡ rows
+    pub actions : List Action
+    pub acted : Acted grain (request_of way.doing.steps.ask) steps (steps_done way.doing.steps) way.doing.steps.stop way.due rows now actions
+    pub is : IsMetered seen n.meta (after_actions (room_of seen n.meta) before actions)
+    pub calls : n.calls ≡ more_calls (after_actions (room_of seen n.meta) before actions).calls 0
+
   -- No entry is under way: the store stands for what is told, and its disks and metadata for a point to which the history led.
   pub record IsNotedAt (n : Noted C D) (history : HistoryState) (w : Whole) (least : List Row) : Type 0 where
     pub idle : n.under_way ≡ None
@@ -73,6 +94,7 @@ module _ {C D : Type 0} (seen : D → List ℕ) (may_leave : D → List ℕ → 
     pub point : Point
     pub run : HasRun n.store.control.grain history.entries w least point
     pub keeps : Keeps n.store.control.grain n.meta n w None point
+    pub counts : Counts n history.entries w
 
   -- An entry is under way in one lane: the store stood for what is told when it began, and in that lane its steps came so far. The
   -- script asks it next.
@@ -95,6 +117,7 @@ module _ {C D : Type 0} (seen : D → List ℕ) (may_leave : D → List ℕ → 
     pub point : Point
     pub came : Came begun.control.grain w (request_of way.doing.steps.ask) before.kept.rows steps before (steps_done way.doing.steps) way.doing.steps.stop way.due point
     pub keeps : Keeps begun.control.grain n.meta n w way.due point
+    pub counts : CountsSoFar begun.control.grain n way history.entries w steps before.kept.rows point.kept.rows
 
   abbrev pub IsAtBy : Option UnderWay → Noted C D → HistoryState → Whole → List Row → Type 0
   IsAtBy None n history w least = IsNotedAt n history w least
@@ -110,6 +133,14 @@ module _ {C D : Type 0} (seen : D → List ℕ) (may_leave : D → List ℕ → 
     pub w : Whole
     pub least : List Row
     pub at : IsAt n history w least
+    pub room : length history.entries ≤ 262144
+
+  -- The next entry may begin.
+  pub record CanBegin (n : Noted C D) (history : HistoryState) : Type 0 where
+    pub live : n.live ≡ true
+    pub w : Whole
+    pub least : List Row
+    pub at : IsNotedAt n history w least
     pub room : length history.entries ≤ 262144
 
   -- A step logged nothing, and what was told is told.

@@ -7,6 +7,7 @@ use Rattle.fc_base.specs.declared.size.GrainSize.{GrainSize}
 use Rattle.fc_blocks.specs.Segments.{single}
 use Rattle.fc_changed.specs.Row.{Row}
 use Rattle.fc_entry.specs.HistoryState.{HistoryState}
+use Rattle.fc_entry.specs.declared.entry.Entry.{Entry}
 use Rattle.fc_format.specs.Halves.{Image, NoImage, recovered}
 use Rattle.fc_grains.specs.Volumes.{VolumeGrains, is_there, volume_of}
 use Rattle.fc_image.specs.declared.image.MetaImage.{MetaImage}
@@ -25,7 +26,11 @@ use Rattle.fc_script.specs.declared.script.Script.{Script}
 use Rattle.fc_stands.specs.Store.{StoreView}
 use Rattle.fc_held.specs.Held.{HaveVolumes, HoldAllOf}
 use Rattle.fc_marks.specs.declared.error.NotedStop.{NotedStop}
-use Rattle.fc_marks.specs.declared.error.NotedStop.TheVariants.{LogFull}
+use Rattle.fc_marks.specs.Meter.{Meter}
+use Rattle.fc_marks.specs.declared.error.NotedStop.TheVariants.{LogFull, MetaFailed}
+use Rattle.fc_meta.specs.Answers.{more_calls}
+use Rattle.fc_meta.specs.States.{disk_of, room_of}
+use Rattle.fc_noted.specs.Metered.{GoesInto, Metered}
 use Rattle.fc_noted.specs.declared.noted.Noted.{Noted}
 
 -- Nothing is asked, or the script asks this next.
@@ -104,19 +109,38 @@ pub record Leaves {C D : Type 0} (grain : GrainSize) (may_leave : D → List ℕ
       (least : List Row) × (request : Option Request) × IsAskedSoon grain w a request
       × IsSafe grain back (kept_in image) w least request (MoreFailed w n.store.lanes))
 
--- The first entries of an agenda were logged, for the history's limit all that there is room for; and with them it is left so.
-abbrev pub Halts : {C D : Type 0} → GrainSize → (may_leave : D → List ℕ → Type 0) → Reading → NotedStop → Agenda → Noted C D → Whole → HistoryState → HistoryState → Type 0
-Halts grain may_leave read LogFull a new w before after =
-    (length after.entries ≡ 262144)
-    × ((next : Whole) × IsOf next after × ((left : Agenda) × Leaves grain may_leave new next left)
-    × Adds before after (λ more. GoesAsking (session_rules grain read) a w more next))
-Halts grain may_leave read stop a new w before after =
-    (next : Whole) × (left : Agenda) × IsOf next after × Leaves grain may_leave new next left
-    × Adds before after (λ more. Goes (session_rules grain read) a w more left next)
+-- The entries were paid for before metadata's disk failed: it had been called so often without a fault.
+pub record Paid {C D : Type 0} (seen : D → List ℕ) (fault_count calls : D → ℕ) (grain : GrainSize) (old new : Noted C D) (next : Whole) (entries : List Entry) (meter : Meter) : Type 0 where
+  pub metered : Metered grain (room_of seen new.meta) entries next meter
+  pub unfailed : ℕ
+  pub disk : D
+  pub called : calls disk ≡ more_calls unfailed (calls (disk_of old.meta))
+  pub quiet : fault_count disk ≡ fault_count (disk_of old.meta)
+  pub before : more_calls meter.calls 0 ≤ more_calls unfailed old.calls
 
--- The same of a line.
-abbrev pub LineHalts : {C D : Type 0} → (may_leave : D → List ℕ → Type 0) → Reading → NotedStop → Noted C D → Noted C D → List ℕ → Whole → HistoryState → HistoryState → Type 0
-LineHalts may_leave read stop old new bytes w before after = Halts old.store.control.grain may_leave read stop (Session (single bytes ∷ [])) new w before after
+-- What is asked next goes so far into the calls of metadata's disk.
+pub record LeftAt {C D : Type 0} (seen : D → List ℕ) (grain : GrainSize) (new : Noted C D) (next : Whole) (left : Agenda) (meter : Meter) : Type 0 where
+  pub request : Request
+  pub asked : IsAskedSoon grain next left (Some request)
+  pub into : Meter
+  pub goes : GoesInto grain (room_of seen new.meta) next meter request into
+  pub calls : new.calls ≡ more_calls into.calls 0
+
+-- The first entries of an agenda were logged, for the history's limit all that there is room for; and with them it is left so.
+module _ {C D : Type 0} (seen : D → List ℕ) (may_leave : D → List ℕ → Type 0) (fault_count calls : D → ℕ) where
+  abbrev pub Halts : GrainSize → Reading → NotedStop → Agenda → Noted C D → Noted C D → Whole → HistoryState → HistoryState → Type 0
+  Halts grain read LogFull a old new w before after =
+      (length after.entries ≡ 262144)
+      × ((next : Whole) × IsOf next after × ((left : Agenda) × Leaves grain may_leave new next left)
+      × Adds before after (λ more. GoesAsking (session_rules grain read) a w more next))
+  Halts grain read stop a old new w before after =
+      (next : Whole) × (left : Agenda) × IsOf next after × Leaves grain may_leave new next left
+      × ((meter : Meter) × Paid seen fault_count calls grain old new next after.entries meter × ((stop ≡ MetaFailed) → LeftAt seen grain new next left meter))
+      × Adds before after (λ more. Goes (session_rules grain read) a w more left next)
+
+  -- The same of a line.
+  abbrev pub LineHalts : Reading → NotedStop → Noted C D → Noted C D → List ℕ → Whole → HistoryState → HistoryState → Type 0
+  LineHalts read stop old new bytes w before after = Halts old.store.control.grain read stop (Session (single bytes ∷ [])) old new w before after
 
 -- ---- before the first line
 

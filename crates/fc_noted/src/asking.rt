@@ -1,7 +1,6 @@
 //! How the next entry of a line begins.
 
-ghost use Rattle.std.specs.Prelude.{◌≡◌, ◌<◌, ◌≤◌, ◌^◌, IsErrOf, List, cond, length, true, None, Some};
-ghost use Rattle.fc_changed.specs.Row.{Row};
+ghost use Rattle.std.specs.Prelude.{◌≡◌, ◌<◌, ◌^◌, IsErrOf, cond, length, true, None, Some};
 ghost use Rattle.fc_entry.specs.Picture.{grain_of_block};
 ghost use Rattle.fc_follow.specs.Following.{Followed};
 ghost use Rattle.fc_lane.specs.Entering.{HasFollowed};
@@ -9,8 +8,8 @@ ghost use Rattle.fc_lane.specs.Lane.{IsFollowing, of};
 ghost use Rattle.fc_lane.specs.declared.worker.Worker.TheVariants.{Cleaner, Copier};
 ghost use Rattle.fc_lanes.specs.declared.access.Access.TheVariants.{Read, Write};
 ghost use Rattle.fc_legal.specs.Whole.{Whole};
-ghost use Rattle.fc_noted.specs.Making.{KeepLanes, StepMade, always};
-ghost use Rattle.fc_noted.specs.Noted.{IsNotedAt};
+ghost use Rattle.fc_noted.specs.Making.{KeepLanes, KeepsCount, StepMade, always};
+ghost use Rattle.fc_noted.specs.Noted.{CanBegin};
 ghost use Rattle.fc_noted.specs.Stopping.{AsksSome};
 ghost use Rattle.fc_rules.specs.LaneFits.{FitsPart};
 ghost use Rattle.fc_script.specs.Asking.{CanBeAsked, HasNextFill, IsNext, work_of};
@@ -73,13 +72,12 @@ fn read_at<D: Mdisk>(
 impl<D: Mdisk, M: MetaDisk> Noted<D, M> {
     /// Begins what the line asks next; false exactly where nothing is left.
     pub(crate) fn begin_next(&mut self, history: &mut History) -> Result<bool, NotedStop>
-        requires at { (w : Whole) × (least : List Row) × IsNotedAt M.seen M.may_leave self.old history.old w least }
-        requires live { self.old.live ≡ true }
-        requires room { length history.old.entries ≤ 262144 }
+        requires begins { CanBegin M.seen M.may_leave self.old history.old }
         ensures made { StepMade M.seen M.may_leave M.moment M.left_since result self.old self.new history.old history.new }
         ensures full { IsErrOf result NotedStop.LogFull → (w : Whole) → StandsFor self.old.store w → AsksSome self.old.store.control.grain self.old.script w }
         ensures lanes { KeepLanes self.old.store self.new.store }
         ensures live { self.new.live ≡ self.old.live }
+        ensures counted { KeepsCount M.seen M.fault_count M.calls result self.old self.new }
     {
         match self.script.next(&self.store)? {
             None => Ok(false),
@@ -91,15 +89,14 @@ impl<D: Mdisk, M: MetaDisk> Noted<D, M> {
     }
 
     fn begin(&mut self, asked: Asked, history: &mut History) -> Result<(), NotedStop>
-        requires at { (w : Whole) × (least : List Row) × IsNotedAt M.seen M.may_leave self.old history.old w least }
-        requires live { self.old.live ≡ true }
-        requires room { length history.old.entries ≤ 262144 }
+        requires begins { CanBegin M.seen M.may_leave self.old history.old }
         requires next { (w : Whole) → StandsFor self.old.store w → IsNext self.old.store.control.grain w (Some asked) (agenda_of self.old.store.control.grain self.old.script) }
         requires can { CanBeAsked self.old.store asked }
         requires fill { (w : Whole) → StandsFor self.old.store w → HasNextFill self.old.store.control.grain w (work_of self.old.script) asked }
         ensures made { StepMade M.seen M.may_leave M.moment M.left_since (always result) self.old self.new history.old history.new }
         ensures lanes { KeepLanes self.old.store self.new.store }
         ensures live { self.new.live ≡ self.old.live }
+        ensures counted { KeepsCount M.seen M.fault_count M.calls result self.old self.new }
     {
         match asked {
             Asked::Command(command) => self.command(command, history),
@@ -125,14 +122,13 @@ impl<D: Mdisk, M: MetaDisk> Noted<D, M> {
         refusal: Refusal,
         history: &mut History,
     ) -> Result<(), NotedStop>
-        requires at { (w : Whole) × (least : List Row) × IsNotedAt M.seen M.may_leave self.old history.old w least }
-        requires live { self.old.live ≡ true }
-        requires room { length history.old.entries ≤ 262144 }
+        requires begins { CanBegin M.seen M.may_leave self.old history.old }
         requires next { (w : Whole) → StandsFor self.old.store w → IsNext self.old.store.control.grain w (Some (Asked.Refused request refusal)) (agenda_of self.old.store.control.grain self.old.script) }
         requires can { CanBeAsked self.old.store (Asked.Refused request refusal) }
         ensures made { StepMade M.seen M.may_leave M.moment M.left_since (always result) self.old self.new history.old history.new }
         ensures lanes { KeepLanes self.old.store self.new.store }
         ensures live { self.new.live ≡ self.old.live }
+        ensures counted { KeepsCount M.seen M.fault_count M.calls result self.old self.new }
     {
         if is_full(history) {
             return Err(NotedStop::LogFull);
@@ -151,14 +147,13 @@ impl<D: Mdisk, M: MetaDisk> Noted<D, M> {
         grain: u32,
         history: &mut History,
     ) -> Result<(), NotedStop>
-        requires at { (w : Whole) × (least : List Row) × IsNotedAt M.seen M.may_leave self.old history.old w least }
-        requires live { self.old.live ≡ true }
-        requires room { length history.old.entries ≤ 262144 }
+        requires begins { CanBegin M.seen M.may_leave self.old history.old }
         requires next { (w : Whole) → StandsFor self.old.store w → IsNext self.old.store.control.grain w (Some (Asked.Part Read volume block count grain)) (agenda_of self.old.store.control.grain self.old.script) }
         requires can { CanBeAsked self.old.store (Asked.Part Read volume block count grain) }
         ensures made { StepMade M.seen M.may_leave M.moment M.left_since (always result) self.old self.new history.old history.new }
         ensures lanes { KeepLanes self.old.store self.new.store }
         ensures live { self.new.live ≡ self.old.live }
+        ensures counted { KeepsCount M.seen M.fault_count M.calls result self.old self.new }
     {
         let place = self.store.ready_lane(grain, history)?;
         let (first, blocks) = blocks_in(self.store.grain(), block, count, grain);
@@ -187,14 +182,13 @@ impl<D: Mdisk, M: MetaDisk> Noted<D, M> {
         grain: u32,
         history: &mut History,
     ) -> Result<(), NotedStop>
-        requires at { (w : Whole) × (least : List Row) × IsNotedAt M.seen M.may_leave self.old history.old w least }
-        requires live { self.old.live ≡ true }
-        requires room { length history.old.entries ≤ 262144 }
+        requires begins { CanBegin M.seen M.may_leave self.old history.old }
         requires next { (w : Whole) → StandsFor self.old.store w → IsNext self.old.store.control.grain w (Some (Asked.Part (Write byte) volume block count grain)) (agenda_of self.old.store.control.grain self.old.script) }
         requires can { CanBeAsked self.old.store (Asked.Part (Write byte) volume block count grain) }
         ensures made { StepMade M.seen M.may_leave M.moment M.left_since (always result) self.old self.new history.old history.new }
         ensures lanes { KeepLanes self.old.store self.new.store }
         ensures live { self.new.live ≡ self.old.live }
+        ensures counted { KeepsCount M.seen M.fault_count M.calls result self.old self.new }
     {
         let place = self.store.ready_lane(grain, history)?;
         let (first, blocks) = blocks_in(self.store.grain(), block, count, grain);
@@ -221,15 +215,14 @@ impl<D: Mdisk, M: MetaDisk> Noted<D, M> {
         grain: GrainNo,
         history: &mut History,
     ) -> Result<(), NotedStop>
-        requires at { (w : Whole) × (least : List Row) × IsNotedAt M.seen M.may_leave self.old history.old w least }
-        requires live { self.old.live ≡ true }
-        requires room { length history.old.entries ≤ 262144 }
+        requires begins { CanBegin M.seen M.may_leave self.old history.old }
         requires next { (w : Whole) → StandsFor self.old.store w → IsNext self.old.store.control.grain w (Some (Asked.Fill map cleans grain)) (agenda_of self.old.store.control.grain self.old.script) }
         requires can { CanBeAsked self.old.store (Asked.Fill map cleans grain) }
         requires fill { (w : Whole) → StandsFor self.old.store w → HasNextFill self.old.store.control.grain w (work_of self.old.script) (Asked.Fill map cleans grain) }
         ensures made { StepMade M.seen M.may_leave M.moment M.left_since (always result) self.old self.new history.old history.new }
         ensures lanes { KeepLanes self.old.store self.new.store }
         ensures live { self.new.live ≡ self.old.live }
+        ensures counted { KeepsCount M.seen M.fault_count M.calls result self.old self.new }
     {
         let place = self.store.ready_lane(grain.0, history)?;
         let worker = worker_of(cleans);

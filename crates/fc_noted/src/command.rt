@@ -1,8 +1,7 @@
 //! Commands.
 
-ghost use Rattle.std.specs.Prelude.{◌≡◌, ◌+◌, ◌<◌, ◌≤◌, ◌||◌, [], ℕ, List, Some, length, true, is_some, IfOk, IsErrOf, OnErr, OnOk};
+ghost use Rattle.std.specs.Prelude.{◌≡◌, ◌+◌, ◌<◌, ◌||◌, [], ℕ, List, Some, length, true, is_some, IfOk, IsErrOf, OnErr, OnOk};
 ghost use Rattle.fc_books.specs.Deciding.{settle};
-ghost use Rattle.fc_changed.specs.Row.{Row};
 ghost use Rattle.fc_entry.specs.HistoryState.{HistoryState};
 ghost use Rattle.fc_entry.specs.declared.entry.Entry.{Entry as EntryValue};
 ghost use Rattle.fc_format.specs.Halves.{Image};
@@ -13,11 +12,12 @@ ghost use Rattle.fc_lane.specs.Lane.{IsAsked, IsSameLane};
 ghost use Rattle.fc_lanes.specs.AllLanes.{EachLane};
 ghost use Rattle.fc_legal.specs.Steps.{after_settling};
 ghost use Rattle.fc_legal.specs.Whole.{Whole};
-ghost use Rattle.fc_meta.specs.Answers.{LeavesEither};
-ghost use Rattle.fc_meta.specs.States.{IsResting, disk_of, found};
+ghost use Rattle.fc_marks.specs.Meter.{filled_size};
+ghost use Rattle.fc_meta.specs.Answers.{LeavesEither, more_calls};
+ghost use Rattle.fc_meta.specs.States.{IsResting, disk_of, found, used_of};
 ghost use Rattle.fc_metadisk.specs.Disk.{LeavesOnly};
-ghost use Rattle.fc_noted.specs.Making.{AnewOr, HasActed, IsEntryOf, IsImageAfter, KeepLanes, LeadsOn, LeavesAnew, MayHaveActed, StepMade, always};
-ghost use Rattle.fc_noted.specs.Noted.{IsNotedAt};
+ghost use Rattle.fc_noted.specs.Making.{AnewOr, CountsInto, HasActed, IsEntryOf, IsImageAfter, IsNotedWithRoom, KeepLanes, KeepsCount, LeadsOn, LeavesAnew, MayHaveActed, StepMade, WhereverNoted, always};
+ghost use Rattle.fc_noted.specs.Noted.{CanBegin};
 ghost use Rattle.law_noted.specs.Records.{removed_by};
 ghost use Rattle.fc_noted.specs.Stopping.{HasStopped, LeavesRecoverable};
 ghost use Rattle.fc_script.specs.Asking.{CanBeAsked, IsNext};
@@ -80,14 +80,13 @@ impl<D: Mdisk, M: MetaDisk> Noted<D, M> {
         command: Command,
         history: &mut History,
     ) -> Result<(), NotedStop>
-        requires at { (w : Whole) × (least : List Row) × IsNotedAt M.seen M.may_leave self.old history.old w least }
-        requires live { self.old.live ≡ true }
-        requires room { length history.old.entries ≤ 262144 }
+        requires begins { CanBegin M.seen M.may_leave self.old history.old }
         requires next { (w : Whole) → StandsFor self.old.store w → IsNext self.old.store.control.grain w (Some (Asked.Command command)) (agenda_of self.old.store.control.grain self.old.script) }
         requires can { CanBeAsked self.old.store (Asked.Command command) }
         ensures made { StepMade M.seen M.may_leave M.moment M.left_since (always result) self.old self.new history.old history.new }
         ensures lanes { KeepLanes self.old.store self.new.store }
         ensures live { self.new.live ≡ self.old.live }
+        ensures counted { KeepsCount M.seen M.fault_count M.calls result self.old self.new }
     {
         if is_full(history) {
             return Err(NotedStop::LogFull);
@@ -108,8 +107,12 @@ impl<D: Mdisk, M: MetaDisk> Noted<D, M> {
         ensures named { OnOk result ((self.new.named ≡ image.now.next_volume) × (self.new.marks.items ≡ [])) }
         ensures kept { OnErr result ((self.new.named ≡ self.old.named) × (self.new.marks.items ≡ self.old.marks.items)) }
         ensures not_log { IsErrOf result NotedStop.LogFull → ⊥ }
-        ensures others { self.new ≡ record self.old { meta = self.new.meta; named = self.new.named; marks = self.new.marks } }
+        ensures calls { self.new.calls ≡ more_calls 6 self.old.calls }
+        ensures used { OnOk result (used_of self.new.meta ≡ filled_size image.now) }
+        ensures others { self.new ≡ record self.old { meta = self.new.meta; named = self.new.named; marks = self.new.marks; calls = self.new.calls } }
+        ensures counted { KeepsCount M.seen M.fault_count M.calls result self.old self.new }
     {
+        self.calls = self.calls.saturating_add(6);
         self.meta.fold(self.alloc, image)?;
         self.named = image.next_volume;
         self.marks.clear();
@@ -125,6 +128,7 @@ impl<D: Mdisk, M: MetaDisk> Noted<D, M> {
         ensures grain { self.new.store.control.grain ≡ self.old.store.control.grain }
         ensures lanes { EachLane IsSameLane self.old.store.lanes self.new.store.lanes }
         ensures not_log { IsErrOf result NotedStop.LogFull → ⊥ }
+        ensures not_failed { IsErrOf result NotedStop.MetaFailed → ⊥ }
         ensures others { self.new ≡ record self.old { store = self.new.store } }
     {
         let settling = self.store.plan_settling()?;
@@ -144,8 +148,10 @@ impl<D: Mdisk, M: MetaDisk> Noted<D, M> {
         ensures kept { OnErr result ((self.new.named ≡ self.old.named) × (self.new.marks.items ≡ self.old.marks.items)) }
         ensures anew { OnOk result (AnewOr M.seen M.may_leave (has_action || is_some (removed_by decision.now.events)) decision.now self.old self.new) }
         ensures any_moment { LeavesOnly M.moment M.left_since (disk_of self.old.meta) (disk_of self.new.meta) (LeavesAnew M.seen M.may_leave decision.now self.old) }
+        ensures failed { IsErrOf result NotedStop.MetaFailed → ((has_action || is_some (removed_by decision.now.events)) ≡ true) × (self.new.calls ≡ more_calls 6 self.old.calls) }
         ensures not_log { IsErrOf result NotedStop.LogFull → ⊥ }
-        ensures others { self.new ≡ record self.old { store = self.new.store; meta = self.new.meta; named = self.new.named; marks = self.new.marks } }
+        ensures others { self.new ≡ record self.old { store = self.new.store; meta = self.new.meta; named = self.new.named; marks = self.new.marks; calls = self.new.calls } }
+        ensures counted { KeepsCount M.seen M.fault_count M.calls result self.old self.new }
     {
         self.store.reserve_all(decision)?;
         if let Some(volume) = removed_by(decision) {
@@ -170,25 +176,24 @@ impl<D: Mdisk, M: MetaDisk> Noted<D, M> {
     /// The entry of a command that is done: it leads on to what the noted store then stands for, once it is logged. Until then, and
     /// behind an error, a stop leaves what may be recovered with the command as one that is asked.
     fn command_entry(&mut self, command: Command) -> Result<Entry, NotedStop>
-        requires at { (w : Whole) × (least : List Row) × (history : HistoryState) ×
-            IsNotedAt M.seen M.may_leave self.old history w least × (length history.entries < 262144) }
+        requires at { IsNotedWithRoom M.seen M.may_leave self.old }
         requires next { (w : Whole) → StandsFor self.old.store w →
             IsNext self.old.store.control.grain w (Some (Asked.Command command)) (agenda_of self.old.store.control.grain self.old.script) }
         requires decided { IsDecided command }
         ensures leads { IfOk result (λ entry.
             (history : HistoryState) → length history.entries < 262144 → LeadsOn M.seen M.may_leave self.old history entry self.new) }
         ensures asked { IfOk result (λ entry. IsAsked 0 0 (Request.Command command) entry) }
-        ensures any_moment { (history : HistoryState) (w : Whole) (least : List Row) →
-            length history.entries < 262144 → IsNotedAt M.seen M.may_leave self.old history w least →
-            LeavesOnly M.moment M.left_since (disk_of self.old.meta) (disk_of self.new.meta) (LeavesRecoverable self.old self.new w least) }
-        ensures stopped { (history : HistoryState) (w : Whole) (least : List Row) →
-            length history.entries < 262144 → IsNotedAt M.seen M.may_leave self.old history w least →
-            HasStopped M.may_leave self.old self.new w least }
+        ensures any_moment { WhereverNoted M.seen M.may_leave self.old (λ history w least.
+            LeavesOnly M.moment M.left_since (disk_of self.old.meta) (disk_of self.new.meta) (LeavesRecoverable self.old self.new w least)) }
+        ensures stopped { WhereverNoted M.seen M.may_leave self.old (λ history w least. HasStopped M.may_leave self.old self.new w least) }
+        ensures into { IsErrOf result NotedStop.MetaFailed →
+            WhereverNoted M.seen M.may_leave self.old (λ history w least. CountsInto M.seen self.old self.new history w) }
         ensures not_log { IsErrOf result NotedStop.LogFull → ⊥ }
         ensures grain { OnOk result (self.new.store.control.grain ≡ self.old.store.control.grain) }
         ensures lanes { EachLane IsSameLane self.old.store.lanes self.new.store.lanes }
         ensures script { self.new.script ≡ self.old.script }
         ensures live { self.new.live ≡ self.old.live }
+        ensures counted { KeepsCount M.seen M.fault_count M.calls result self.old self.new }
     {
         match self.carry_out(&command) {
             Ok((decision, joined)) => Ok(decided_entry(self.alloc, command, decision, joined)),
@@ -198,24 +203,23 @@ impl<D: Mdisk, M: MetaDisk> Noted<D, M> {
 
     /// Settles all, decides a command and does it: what was decided, and the effects of both decisions where the settling had any.
     fn carry_out(&mut self, command: &Command) -> Result<(Decision, List<Effect>), NotedStop>
-        requires at { (w : Whole) × (least : List Row) × (history : HistoryState) ×
-            IsNotedAt M.seen M.may_leave self.old history w least × (length history.entries < 262144) }
+        requires at { IsNotedWithRoom M.seen M.may_leave self.old }
         requires next { (w : Whole) → StandsFor self.old.store w →
             IsNext self.old.store.control.grain w (Some (Asked.Command command.now)) (agenda_of self.old.store.control.grain self.old.script) }
         requires decided { IsDecided command.now }
         ensures leads { IfOk result (λ done. (entry : EntryValue) → IsEntryOf command.now done.0 done.1 entry →
             (history : HistoryState) → length history.entries < 262144 → LeadsOn M.seen M.may_leave self.old history entry self.new) }
-        ensures any_moment { (history : HistoryState) (w : Whole) (least : List Row) →
-            length history.entries < 262144 → IsNotedAt M.seen M.may_leave self.old history w least →
-            LeavesOnly M.moment M.left_since (disk_of self.old.meta) (disk_of self.new.meta) (LeavesRecoverable self.old self.new w least) }
-        ensures stopped { (history : HistoryState) (w : Whole) (least : List Row) →
-            length history.entries < 262144 → IsNotedAt M.seen M.may_leave self.old history w least →
-            HasStopped M.may_leave self.old self.new w least }
+        ensures any_moment { WhereverNoted M.seen M.may_leave self.old (λ history w least.
+            LeavesOnly M.moment M.left_since (disk_of self.old.meta) (disk_of self.new.meta) (LeavesRecoverable self.old self.new w least)) }
+        ensures stopped { WhereverNoted M.seen M.may_leave self.old (λ history w least. HasStopped M.may_leave self.old self.new w least) }
+        ensures into { IsErrOf result NotedStop.MetaFailed →
+            WhereverNoted M.seen M.may_leave self.old (λ history w least. CountsInto M.seen self.old self.new history w) }
         ensures not_log { IsErrOf result NotedStop.LogFull → ⊥ }
         ensures grain { OnOk result (self.new.store.control.grain ≡ self.old.store.control.grain) }
         ensures lanes { EachLane IsSameLane self.old.store.lanes self.new.store.lanes }
         ensures script { self.new.script ≡ self.old.script }
         ensures live { self.new.live ≡ self.old.live }
+        ensures counted { KeepsCount M.seen M.fault_count M.calls result self.old self.new }
     {
         // (this does nothing: it is known by it what a command leaves on all disks)
         commanded_law();

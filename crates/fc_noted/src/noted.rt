@@ -2,6 +2,7 @@
 
 ghost use Rattle.std.specs.Prelude.{◌≡◌, ◌≢◌, ◌<◌, ◌^◌, [], Err, IfErr, IfOk, List, Ok, OnErr, OnOk, length, map, replicate, true, vec_len};
 ghost use Rattle.std.specs.List.{All};
+ghost use Rattle.fc_base.specs.Count.{HasRisen};
 ghost use Rattle.fc_changed.specs.Row.{Row};
 ghost use Rattle.fc_entry.specs.HistoryState.{HistoryState};
 ghost use Rattle.fc_lanes.specs.Dealing.{Begin, all_dealt, pools_dealt};
@@ -9,6 +10,10 @@ ghost use Rattle.fc_legal.specs.Agenda.{line_read};
 ghost use Rattle.fc_legal.specs.Whole.{Whole, opened};
 ghost use Rattle.fc_marks.specs.Stops.{stop_of_meta};
 ghost use Rattle.fc_mdisk.specs.Disk.{DiskState, IsFresh};
+ghost use Rattle.fc_marks.specs.Meter.{IsCalledUpTo};
+ghost use Rattle.fc_meta.specs.Answers.{more_calls};
+ghost use Rattle.fc_meta.specs.States.{room_of};
+ghost use Rattle.fc_format.specs.Halves.{half_size};
 ghost use Rattle.fc_metadisk.specs.Disk.{LeavesOnly, Only};
 ghost use Rattle.fc_held.specs.Held.{HaveVolumes, HoldAllOf};
 ghost use Rattle.fc_noted.specs.Noted.{BeginsOver, IsNotedAt, NoHistory};
@@ -66,6 +71,8 @@ pub struct Noted<D: Mdisk, M: MetaDisk> {
     pub(crate) under_way: Option<UnderWay>,
     // whether steps may be made: no error came yet
     pub(crate) live: bool,
+    // how many writes and syncs metadata has cost, those of a step that failed included
+    pub(crate) calls: u64,
 }
 
 impl<D: Mdisk, M: MetaDisk> Noted<D, M> {
@@ -111,6 +118,10 @@ impl<D: Mdisk, M: MetaDisk> Noted<D, M> {
         ensures store { IfOk result (λ n. n.store ≡ store) }
         ensures live { IfOk result (λ n. n.live ≡ true) }
         ensures any_moment { LeavesOnly M.moment M.left_since disk (over_meta result) LeavesFirst }
+        ensures counted { IfOk result (λ n. (n.calls ≡ 4) × (M.calls n.meta.disk ≡ more_calls 4 (M.calls disk)) × (M.fault_count n.meta.disk ≡ M.fault_count disk)
+            × (room_of M.seen n.meta ≡ half_size (M.seen disk))) }
+        ensures within { IfErr result (λ e. e.2 ≡ NotedStop.MetaFailed → IsCalledUpTo 4 (M.calls disk) (M.calls e.1)) }
+        ensures failed { IfErr result (λ e. e.2 ≡ NotedStop.MetaFailed → HasRisen (M.fault_count disk) (M.fault_count e.1)) }
         ensures back { IfErr result (λ e. e.0 ≡ store) }
         ensures not_log { IfErr result (λ e. e.2 ≢ NotedStop.LogFull) }
     {
@@ -129,6 +140,7 @@ impl<D: Mdisk, M: MetaDisk> Noted<D, M> {
                 script: Script::Over,
                 under_way: None,
                 live: true,
+                calls: 4,
             }),
             Err((disk, error)) => Err((store, disk, stop_of(error))),
         }

@@ -3,8 +3,15 @@
 ghost use Rattle.std.specs.Prelude.{◌≡◌, ◌≢◌, ◌≤◌, ◌↔◌, List, [], ◌∷◌, ◌++◌, length, true, None, Some, IfErr, IsErrOf, IsTrue, OnErr, OnOk};
 ghost use Rattle.fc_changed.specs.Row.{Row};
 ghost use Rattle.fc_entry.specs.HistoryState.{HistoryState};
+ghost use Rattle.fc_format.specs.Halves.{Image};
+ghost use Rattle.fc_format.specs.Ranges.{HasGoodIds};
+ghost use Rattle.fc_image.specs.declared.image.MetaImage.{MetaImage as ImageValue};
 ghost use Rattle.fc_legal.specs.Whole.{Whole};
-ghost use Rattle.fc_noted.specs.Making.{CopiesNext, GoesBehind, IsMarkedNext, KeepLanes, StepMade, WayMade, done};
+ghost use Rattle.fc_marks.specs.Meter.{IsMetered, Meter, with_record};
+ghost use Rattle.fc_meta.specs.Answers.{LeavesEither, found_with, more_calls};
+ghost use Rattle.fc_meta.specs.States.{IsResting, disk_of, found, room_of};
+ghost use Rattle.fc_metadisk.specs.Disk.{LeavesOnly};
+ghost use Rattle.fc_noted.specs.Making.{CopiesNext, GoesBehind, IsMarkedNext, KeepLanes, KeepsCount, StepMade, WayMade, done};
 ghost use Rattle.fc_noted.specs.Noted.{CanStep, IsAt, IsDoing};
 ghost use Rattle.fc_noted.specs.Stopping.{AsksSome};
 ghost use Rattle.law_noted.specs.DataSteps.{copies_nothing};
@@ -23,7 +30,7 @@ use fc_entry::entry::Entry;
 use fc_entry::history::History;
 use fc_image::MetaRecord;
 use fc_lane::doing::Doing;
-use fc_marks::{Mark, NotedStop, forget, put_record, remember, wants_mark};
+use fc_marks::{Mark, NotedStop, calls_to_put, forget, put_record, remember, wants_mark};
 use fc_mdisk::mdisk::Mdisk;
 use fc_metadisk::MetaDisk;
 use fc_steps::ask::Ask;
@@ -76,6 +83,7 @@ impl<D: Mdisk, M: MetaDisk> Noted<D, M> {
         ensures full { IsErrOf result NotedStop.LogFull → (w : Whole) (least : List Row) → IsAt M.seen M.may_leave self.old history.old w least → AsksSome self.old.store.control.grain self.old.script w }
         ensures lanes { KeepLanes self.old.store self.new.store }
         ensures live { IsTrue self.new.live ↔ OnErr result ⊥ }
+        ensures counted { KeepsCount M.seen M.fault_count M.calls result self.old self.new }
     {
         let made = self.step(history);
         if made.is_err() {
@@ -91,6 +99,7 @@ impl<D: Mdisk, M: MetaDisk> Noted<D, M> {
         ensures full { IsErrOf result NotedStop.LogFull → (w : Whole) (least : List Row) → IsAt M.seen M.may_leave self.old history.old w least → AsksSome self.old.store.control.grain self.old.script w }
         ensures lanes { KeepLanes self.old.store self.new.store }
         ensures live { self.new.live ≡ self.old.live }
+        ensures counted { KeepsCount M.seen M.fault_count M.calls result self.old self.new }
     {
         match self.under_way.take() {
             None => self.begin_next(history),
@@ -110,6 +119,7 @@ impl<D: Mdisk, M: MetaDisk> Noted<D, M> {
         ensures made { WayMade M.seen M.may_leave M.moment M.left_since result self.old way self.new history.old history.new }
         ensures lanes { KeepLanes self.old.store self.new.store }
         ensures live { self.new.live ≡ self.old.live }
+        ensures counted { KeepsCount M.seen M.fault_count M.calls result self.old self.new }
     {
         if let Some(record) = way.due {
             return self.put_due(way, record);
@@ -121,6 +131,26 @@ impl<D: Mdisk, M: MetaDisk> Noted<D, M> {
         }
     }
 
+    /// Puts a record into metadata, and counts the calls that this takes before they are made.
+    fn put(&mut self, note: MetaRecord) -> Result<(), NotedStop>
+        requires rests { IsResting M.seen M.may_leave self.old.meta }
+        requires ids { (image : ImageValue) → found M.seen self.old.meta ≡ Image image → HasGoodIds image }
+        ensures rests { OnOk result (IsResting M.seen M.may_leave self.new.meta) }
+        ensures found { OnOk result (found M.seen self.new.meta ≡ found_with (found M.seen self.old.meta) (note ∷ [])) }
+        ensures any_moment { LeavesOnly M.moment M.left_since (disk_of self.old.meta) (disk_of self.new.meta)
+            (LeavesEither (found M.seen self.old.meta) (found_with (found M.seen self.old.meta) (note ∷ []))) }
+        ensures not_log { IsErrOf result NotedStop.LogFull → ⊥ }
+        ensures metered { OnOk result ((m : Meter) → IsMetered M.seen self.old.meta m → IsMetered M.seen self.new.meta (with_record (room_of M.seen self.old.meta) note m)) }
+        ensures calls { (m : Meter) → IsMetered M.seen self.old.meta m → self.old.calls ≡ more_calls m.calls 0 →
+            self.new.calls ≡ more_calls (with_record (room_of M.seen self.old.meta) note m).calls 0 }
+        ensures counted { KeepsCount M.seen M.fault_count M.calls result self.old self.new }
+        ensures others { self.new ≡ record self.old { meta = self.new.meta; calls = self.new.calls } }
+    {
+        let calls = calls_to_put(&self.meta, note);
+        self.calls = self.calls.saturating_add(calls);
+        put_record(self.alloc, &mut self.meta, note)
+    }
+
     /// Puts the record of the last step of data.
     fn put_due(&mut self, way: UnderWay, note: MetaRecord) -> Result<(), NotedStop>
         requires at { (w : Whole) × (least : List Row) × (history : HistoryState) × IsDoing M.seen M.may_leave self.old way history w least }
@@ -129,8 +159,9 @@ impl<D: Mdisk, M: MetaDisk> Noted<D, M> {
         ensures made { (history : HistoryState) → WayMade M.seen M.may_leave M.moment M.left_since result self.old way self.new history history }
         ensures lanes { KeepLanes self.old.store self.new.store }
         ensures live { self.new.live ≡ self.old.live }
+        ensures counted { KeepsCount M.seen M.fault_count M.calls result self.old self.new }
     {
-        put_record(self.alloc, &mut self.meta, note)?;
+        self.put(note)?;
         let UnderWay { place, doing, .. } = way;
         self.under_way = Some(UnderWay {
             place,
@@ -167,22 +198,19 @@ impl<D: Mdisk, M: MetaDisk> Noted<D, M> {
         ensures made { (history : HistoryState) → WayMade M.seen M.may_leave M.moment M.left_since result self.old way self.new history history }
         ensures lanes { KeepLanes self.old.store self.new.store }
         ensures live { self.new.live ≡ self.old.live }
+        ensures counted { KeepsCount M.seen M.fault_count M.calls result self.old self.new }
     {
         if !self.copies_nothing(&way, &mv) {
             self.data_step(way);
             return Ok(());
         }
-        put_record(
-            self.alloc,
-            &mut self.meta,
-            MetaRecord::Pair {
-                slot: mv.slot,
-                volume: mv.volume,
-                grain: mv.grain,
-                in_place: mv.in_place,
-                empty: !mv.in_place,
-            },
-        )?;
+        self.put(MetaRecord::Pair {
+            slot: mv.slot,
+            volume: mv.volume,
+            grain: mv.grain,
+            in_place: mv.in_place,
+            empty: !mv.in_place,
+        })?;
         let UnderWay {
             place,
             mut doing,
@@ -206,6 +234,7 @@ impl<D: Mdisk, M: MetaDisk> Noted<D, M> {
         ensures made { (history : HistoryState) → WayMade M.seen M.may_leave M.moment M.left_since result self.old way self.new history history }
         ensures lanes { KeepLanes self.old.store self.new.store }
         ensures live { self.new.live ≡ self.old.live }
+        ensures counted { KeepsCount M.seen M.fault_count M.calls result self.old self.new }
     {
         let grain = way.doing.steps.grain;
         let rows = self.store.all_lanes()[way.place].changes().rows();
@@ -216,11 +245,7 @@ impl<D: Mdisk, M: MetaDisk> Noted<D, M> {
         }
         remember(&mut self.marks, part.volume, grain)?;
         let volume = part.volume;
-        put_record(
-            self.alloc,
-            &mut self.meta,
-            MetaRecord::Changing { volume, grain },
-        )?;
+        self.put(MetaRecord::Changing { volume, grain })?;
         self.under_way = Some(way);
         Ok(())
     }
@@ -236,6 +261,7 @@ impl<D: Mdisk, M: MetaDisk> Noted<D, M> {
         ensures made { (history : HistoryState) → WayMade M.seen M.may_leave M.moment M.left_since done self.old way self.new history history }
         ensures lanes { KeepLanes self.old.store self.new.store }
         ensures live { self.new.live ≡ self.old.live }
+        ensures counted { KeepsCount M.seen M.fault_count M.calls done self.old self.new }
     {
         let UnderWay {
             place,
@@ -259,6 +285,7 @@ impl<D: Mdisk, M: MetaDisk> Noted<D, M> {
         ensures made { WayMade M.seen M.may_leave M.moment M.left_since result self.old way self.new history.old history.new }
         ensures lanes { KeepLanes self.old.store self.new.store }
         ensures live { self.new.live ≡ self.old.live }
+        ensures counted { KeepsCount M.seen M.fault_count M.calls result self.old self.new }
     {
         let UnderWay { place, doing, .. } = way;
         let grain = doing.steps.grain;

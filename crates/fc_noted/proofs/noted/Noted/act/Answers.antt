@@ -1,32 +1,31 @@
 -- The decision is made ready and done, and metadata is made anew.
 use Rattle.std.proofs.Common.{◌≡◌, Bool, Some, is_some, inl, inr, refl, sym, ap, subst, ◌∙◌}
-use Rattle.fc_meta.specs.States.{disk_of, found}
+use Rattle.fc_meta.specs.States.{disk_of}
 use Rattle.law_noted.specs.Records.{removed_by}
-use Rattle.fc_noted.proofs.Acting.{about_image, acted_image, acted_on, always_true, by_image, first_true, none_gone, on_error, stayed, still_there}
-use Rattle.fc_noted.specs.Making.{AnewOr, HasActed, HasStayed, IsImageAfter, LeavesAnew}
+use Rattle.fc_noted.proofs.Acting.{about_image, acted_image, acted_on, always_true, anew_by_image, anew_still, first_true, none_gone, on_error, stayed}
+use Rattle.fc_noted.proofs.CallsMade.{no_error}
+use Rattle.fc_noted.specs.Making.{AnewOr, done, HasActed, HasStayed, IsImageAfter}
+use Rattle.std.proofs.lemmas.Result.{err_from_is_err_and}
+use Rattle.fc_noted.proofs.MeteringNoted.{calls_of_error, no_calls, none_wanting, same_calls}
 use Rattle.fc_noted.proofs.noted.Noted.act.Goals as goal
 
 -- ---- nothing is done yet
 
 pub returns-in_err-reserve_all-clause-any_moment : goal.returns-in_err-reserve_all-clause-any_moment
 returns-in_err-reserve_all-clause-any_moment g c =
-    still_there g.M.MetaDisk.seen g.M.MetaDisk.may_leave g.M.MetaDisk.moment g.M.MetaDisk.left_since g.met.M.MetaDisk.only_now c.args.self.now.meta
-    (LeavesAnew g.M.MetaDisk.seen g.M.MetaDisk.may_leave c.args.decision.now c.args.self.now) c.requires.rests (λ x e. inl e)
+    anew_still g.M.MetaDisk.seen g.M.MetaDisk.may_leave g.M.MetaDisk.moment g.M.MetaDisk.left_since c.args.self.now c.args.decision.now g.met.M.MetaDisk.only_now c.requires.rests
 
 pub returns-in_err-image-clause-any_moment : goal.returns-in_err-image-clause-any_moment
 returns-in_err-image-clause-any_moment g c =
-    still_there g.M.MetaDisk.seen g.M.MetaDisk.may_leave g.M.MetaDisk.moment g.M.MetaDisk.left_since g.met.M.MetaDisk.only_now c.args.self.now.meta
-    (LeavesAnew g.M.MetaDisk.seen g.M.MetaDisk.may_leave c.args.decision.now c.args.self.now) c.requires.rests (λ x e. inl e)
+    anew_still g.M.MetaDisk.seen g.M.MetaDisk.may_leave g.M.MetaDisk.moment g.M.MetaDisk.left_since c.args.self.now c.args.decision.now g.met.M.MetaDisk.only_now c.requires.rests
 
 pub returns-in_err-image-2-clause-any_moment : goal.returns-in_err-image-2-clause-any_moment
 returns-in_err-image-2-clause-any_moment g c =
-    still_there g.M.MetaDisk.seen g.M.MetaDisk.may_leave g.M.MetaDisk.moment g.M.MetaDisk.left_since g.met.M.MetaDisk.only_now c.args.self.now.meta
-    (LeavesAnew g.M.MetaDisk.seen g.M.MetaDisk.may_leave c.args.decision.now c.args.self.now) c.requires.rests (λ x e. inl e)
+    anew_still g.M.MetaDisk.seen g.M.MetaDisk.may_leave g.M.MetaDisk.moment g.M.MetaDisk.left_since c.args.self.now c.args.decision.now g.met.M.MetaDisk.only_now c.requires.rests
 
 pub returns-else-has_action-clause-any_moment : goal.returns-else-has_action-clause-any_moment
 returns-else-has_action-clause-any_moment g c =
-    still_there g.M.MetaDisk.seen g.M.MetaDisk.may_leave g.M.MetaDisk.moment g.M.MetaDisk.left_since g.met.M.MetaDisk.only_now c.args.self.now.meta
-    (LeavesAnew g.M.MetaDisk.seen g.M.MetaDisk.may_leave c.args.decision.now c.args.self.now) c.requires.rests (λ x e. inl e)
+    anew_still g.M.MetaDisk.seen g.M.MetaDisk.may_leave g.M.MetaDisk.moment g.M.MetaDisk.left_since c.args.self.now c.args.decision.now g.met.M.MetaDisk.only_now c.requires.rests
 
 -- ---- a volume goes
 
@@ -46,8 +45,7 @@ returns-in_err-make_anew-clause-any_moment g c =
     let after : IsImageAfter c.args.self.now.store c.args.decision.now c.in_ok-image.image =
     about_image c.args.self.now.store c.reserve_all.new.self c.args.decision.now c.in-Some.volume c.control.result.now c.all_lanes.result.now c.in_ok-image.image c.reserve_all.ensures.reserved
     (sym c.removed_by.ensures ∙ c.in-Some.is) c.control.ensures c.all_lanes.ensures c.in_ok-image.ensures in
-    by_image g.M.MetaDisk.seen g.M.MetaDisk.may_leave g.M.MetaDisk.moment g.M.MetaDisk.left_since (disk_of c.args.self.now.meta) (disk_of c.make_anew.new.self.meta) (found g.M.MetaDisk.seen c.args.self.now.meta) c.in_ok-image.image
-    (LeavesAnew g.M.MetaDisk.seen g.M.MetaDisk.may_leave c.args.decision.now c.args.self.now) (λ x e. inl e) (λ x e. inr (c.in_ok-image.image, e, after)) c.make_anew.ensures.any_moment
+    anew_by_image g.M.MetaDisk.seen g.M.MetaDisk.may_leave g.M.MetaDisk.moment g.M.MetaDisk.left_since c.args.self.now c.args.decision.now (disk_of c.make_anew.new.self.meta) c.in_ok-image.image after c.make_anew.ensures.any_moment
 
 pub returns-in-Some-clause-done : goal.returns-in-Some-clause-done
 returns-in-Some-clause-done g c =
@@ -58,8 +56,7 @@ returns-in-Some-clause-any_moment g c =
     let after : IsImageAfter c.args.self.now.store c.args.decision.now c.in_ok-image.image =
     about_image c.args.self.now.store c.reserve_all.new.self c.args.decision.now c.in-Some.volume c.control.result.now c.all_lanes.result.now c.in_ok-image.image c.reserve_all.ensures.reserved
     (sym c.removed_by.ensures ∙ c.in-Some.is) c.control.ensures c.all_lanes.ensures c.in_ok-image.ensures in
-    by_image g.M.MetaDisk.seen g.M.MetaDisk.may_leave g.M.MetaDisk.moment g.M.MetaDisk.left_since (disk_of c.args.self.now.meta) (disk_of c.make_anew.new.self.meta) (found g.M.MetaDisk.seen c.args.self.now.meta) c.in_ok-image.image
-    (LeavesAnew g.M.MetaDisk.seen g.M.MetaDisk.may_leave c.args.decision.now c.args.self.now) (λ x e. inl e) (λ x e. inr (c.in_ok-image.image, e, after)) c.make_anew.ensures.any_moment
+    anew_by_image g.M.MetaDisk.seen g.M.MetaDisk.may_leave g.M.MetaDisk.moment g.M.MetaDisk.left_since c.args.self.now c.args.decision.now (disk_of c.make_anew.new.self.meta) c.in_ok-image.image after c.make_anew.ensures.any_moment
 
 pub returns-in-Some-clause-anew : goal.returns-in-Some-clause-anew
 returns-in-Some-clause-anew g c =
@@ -76,6 +73,8 @@ returns-in-Some-clause-anew g c =
       after = after;
       named = c.in_ok-make_anew.ensures.named.0;
       unmarked = c.in_ok-make_anew.ensures.named.1;
+      used = c.in_ok-make_anew.ensures.used;
+      calls = c.make_anew.ensures.calls;
     })
 
 -- ---- or none goes
@@ -91,8 +90,7 @@ returns-in_err-image-2-clause-undone g c =
 pub make_anew-requires-then-has_action-clause-ids : goal.make_anew-requires-then-has_action-clause-ids
 make_anew-requires-then-has_action-clause-ids g c =
     c.requires.good c.in_ok-image-2.image
-    (acted_image c.args.self.now.store c.apply_all-2.new.self c.args.decision.now c.control-then-has_action.result.now c.all_lanes-then-has_action.result.now c.in_ok-image-2.image
-    (acted_on c.args.self.now.store c.reserve_all.new.self c.reserve_all.new.self c.apply_all-2.new.self c.args.decision.now c.reserve_all.ensures.reserved refl c.apply_all-2.ensures.done)
+    (acted_image c.args.self.now.store c.reserve_all.new.self c.apply_all-2.new.self c.args.decision.now c.control-then-has_action.result.now c.all_lanes-then-has_action.result.now c.in_ok-image-2.image c.reserve_all.ensures.reserved c.apply_all-2.ensures.done
     (sym c.removed_by.ensures ∙ none_gone c.removed_by.result c.in_default.not-Some) c.control-then-has_action.ensures c.all_lanes-then-has_action.ensures c.in_ok-image-2.ensures)
 
 pub returns-in_err-make_anew-2-clause-undone : goal.returns-in_err-make_anew-2-clause-undone
@@ -108,20 +106,16 @@ returns-in_err-make_anew-2-clause-undone g c =
 pub returns-in_err-make_anew-2-clause-any_moment : goal.returns-in_err-make_anew-2-clause-any_moment
 returns-in_err-make_anew-2-clause-any_moment g c =
     let after : IsImageAfter c.args.self.now.store c.args.decision.now c.in_ok-image-2.image =
-    acted_image c.args.self.now.store c.apply_all-2.new.self c.args.decision.now c.control-then-has_action.result.now c.all_lanes-then-has_action.result.now c.in_ok-image-2.image
-    (acted_on c.args.self.now.store c.reserve_all.new.self c.reserve_all.new.self c.apply_all-2.new.self c.args.decision.now c.reserve_all.ensures.reserved refl c.apply_all-2.ensures.done)
+    acted_image c.args.self.now.store c.reserve_all.new.self c.apply_all-2.new.self c.args.decision.now c.control-then-has_action.result.now c.all_lanes-then-has_action.result.now c.in_ok-image-2.image c.reserve_all.ensures.reserved c.apply_all-2.ensures.done
     (sym c.removed_by.ensures ∙ none_gone c.removed_by.result c.in_default.not-Some) c.control-then-has_action.ensures c.all_lanes-then-has_action.ensures c.in_ok-image-2.ensures in
-    by_image g.M.MetaDisk.seen g.M.MetaDisk.may_leave g.M.MetaDisk.moment g.M.MetaDisk.left_since (disk_of c.args.self.now.meta) (disk_of c.make_anew-then-has_action.new.self.meta) (found g.M.MetaDisk.seen c.args.self.now.meta)
-    c.in_ok-image-2.image (LeavesAnew g.M.MetaDisk.seen g.M.MetaDisk.may_leave c.args.decision.now c.args.self.now) (λ x e. inl e) (λ x e. inr (c.in_ok-image-2.image, e, after)) c.make_anew-then-has_action.ensures.any_moment
+    anew_by_image g.M.MetaDisk.seen g.M.MetaDisk.may_leave g.M.MetaDisk.moment g.M.MetaDisk.left_since c.args.self.now c.args.decision.now (disk_of c.make_anew-then-has_action.new.self.meta) c.in_ok-image-2.image after c.make_anew-then-has_action.ensures.any_moment
 
 pub returns-in_ok-make_anew-2-clause-any_moment : goal.returns-in_ok-make_anew-2-clause-any_moment
 returns-in_ok-make_anew-2-clause-any_moment g c =
     let after : IsImageAfter c.args.self.now.store c.args.decision.now c.in_ok-image-2.image =
-    acted_image c.args.self.now.store c.apply_all-2.new.self c.args.decision.now c.control-then-has_action.result.now c.all_lanes-then-has_action.result.now c.in_ok-image-2.image
-    (acted_on c.args.self.now.store c.reserve_all.new.self c.reserve_all.new.self c.apply_all-2.new.self c.args.decision.now c.reserve_all.ensures.reserved refl c.apply_all-2.ensures.done)
+    acted_image c.args.self.now.store c.reserve_all.new.self c.apply_all-2.new.self c.args.decision.now c.control-then-has_action.result.now c.all_lanes-then-has_action.result.now c.in_ok-image-2.image c.reserve_all.ensures.reserved c.apply_all-2.ensures.done
     (sym c.removed_by.ensures ∙ none_gone c.removed_by.result c.in_default.not-Some) c.control-then-has_action.ensures c.all_lanes-then-has_action.ensures c.in_ok-image-2.ensures in
-    by_image g.M.MetaDisk.seen g.M.MetaDisk.may_leave g.M.MetaDisk.moment g.M.MetaDisk.left_since (disk_of c.args.self.now.meta) (disk_of c.make_anew-then-has_action.new.self.meta) (found g.M.MetaDisk.seen c.args.self.now.meta)
-    c.in_ok-image-2.image (LeavesAnew g.M.MetaDisk.seen g.M.MetaDisk.may_leave c.args.decision.now c.args.self.now) (λ x e. inl e) (λ x e. inr (c.in_ok-image-2.image, e, after)) c.make_anew-then-has_action.ensures.any_moment
+    anew_by_image g.M.MetaDisk.seen g.M.MetaDisk.may_leave g.M.MetaDisk.moment g.M.MetaDisk.left_since c.args.self.now c.args.decision.now (disk_of c.make_anew-then-has_action.new.self.meta) c.in_ok-image-2.image after c.make_anew-then-has_action.ensures.any_moment
 
 pub returns-in_ok-make_anew-2-clause-done : goal.returns-in_ok-make_anew-2-clause-done
 returns-in_ok-make_anew-2-clause-done g c =
@@ -131,8 +125,7 @@ returns-in_ok-make_anew-2-clause-done g c =
 pub returns-in_ok-make_anew-2-clause-anew : goal.returns-in_ok-make_anew-2-clause-anew
 returns-in_ok-make_anew-2-clause-anew g c =
     let after : IsImageAfter c.args.self.now.store c.args.decision.now c.in_ok-image-2.image =
-    acted_image c.args.self.now.store c.apply_all-2.new.self c.args.decision.now c.control-then-has_action.result.now c.all_lanes-then-has_action.result.now c.in_ok-image-2.image
-    (acted_on c.args.self.now.store c.reserve_all.new.self c.reserve_all.new.self c.apply_all-2.new.self c.args.decision.now c.reserve_all.ensures.reserved refl c.apply_all-2.ensures.done)
+    acted_image c.args.self.now.store c.reserve_all.new.self c.apply_all-2.new.self c.args.decision.now c.control-then-has_action.result.now c.all_lanes-then-has_action.result.now c.in_ok-image-2.image c.reserve_all.ensures.reserved c.apply_all-2.ensures.done
     (sym c.removed_by.ensures ∙ none_gone c.removed_by.result c.in_default.not-Some) c.control-then-has_action.ensures c.all_lanes-then-has_action.ensures c.in_ok-image-2.ensures in
     subst (λ (b : Bool). AnewOr g.M.MetaDisk.seen g.M.MetaDisk.may_leave b c.args.decision.now c.args.self.now c.make_anew-then-has_action.new.self)
     (sym (first_true c.args.has_action (is_some (removed_by c.args.decision.now.events)) c.if-has_action.true))
@@ -143,8 +136,69 @@ returns-in_ok-make_anew-2-clause-anew g c =
       after = after;
       named = c.in_ok-make_anew-2.ensures.named.0;
       unmarked = c.in_ok-make_anew-2.ensures.named.1;
+      used = c.in_ok-make_anew-2.ensures.used;
+      calls = c.make_anew-then-has_action.ensures.calls;
     })
 
 pub returns-else-has_action-clause-done : goal.returns-else-has_action-clause-done
 returns-else-has_action-clause-done g c =
     acted_on c.args.self.now.store c.reserve_all.new.self c.reserve_all.new.self c.apply_all-2.new.self c.args.decision.now c.reserve_all.ensures.reserved refl c.apply_all-2.ensures.done
+
+-- ---- calls of the disk of metadata
+
+pub returns-in_err-make_anew-clause-counted : goal.returns-in_err-make_anew-clause-counted
+returns-in_err-make_anew-clause-counted g c =
+    let p = err_from_is_err_and c.from_residual-in_err-make_anew.result c.from_residual-in_err-make_anew.ensures.1 in
+    let mid = record c.args.self.now { store = c.reserve_all.new.self } in
+    calls_of_error g.M.MetaDisk.seen g.M.MetaDisk.fault_count g.M.MetaDisk.calls c.from_residual-in_err-make_anew.result p.0 c.in_err-make_anew.field-0.0 c.args.self.now mid c.make_anew.new.self c.make_anew.new.self p.1 p.2 refl refl refl refl c.in_err-make_anew.ensures.counted
+
+pub returns-in-Some-clause-counted : goal.returns-in-Some-clause-counted
+returns-in-Some-clause-counted g c =
+    let mid = record c.args.self.now { store = c.reserve_all.new.self } in
+    let new = record c.make_anew.new.self { store = c.apply_all.new.self } in
+    same_calls g.M.MetaDisk.seen g.M.MetaDisk.fault_count g.M.MetaDisk.calls done done c.args.self.now mid c.make_anew.new.self new refl refl refl refl (λ P p. p) (λ e. e) c.in_ok-make_anew.ensures.counted
+
+pub returns-in_err-make_anew-clause-failed : goal.returns-in_err-make_anew-clause-failed
+returns-in_err-make_anew-clause-failed g c = λ e. (
+  always_true c.args.has_action (is_some (removed_by c.args.decision.now.events)) (ap is_some (sym c.removed_by.ensures ∙ c.in-Some.is)),
+  c.make_anew.ensures.calls,
+)
+
+pub returns-in_err-make_anew-2-clause-counted : goal.returns-in_err-make_anew-2-clause-counted
+returns-in_err-make_anew-2-clause-counted g c =
+    let p = err_from_is_err_and c.from_residual-in_err-make_anew-2.result c.from_residual-in_err-make_anew-2.ensures.1 in
+    let mid = record c.args.self.now { store = c.apply_all-2.new.self } in
+    let new = c.make_anew-then-has_action.new.self in
+    calls_of_error g.M.MetaDisk.seen g.M.MetaDisk.fault_count g.M.MetaDisk.calls c.from_residual-in_err-make_anew-2.result p.0 c.in_err-make_anew-2.field-0.0 c.args.self.now mid new new p.1 p.2 refl refl refl refl c.in_err-make_anew-2.ensures.counted
+
+pub returns-in_ok-make_anew-2-clause-counted : goal.returns-in_ok-make_anew-2-clause-counted
+returns-in_ok-make_anew-2-clause-counted g c =
+    let mid = record c.args.self.now { store = c.apply_all-2.new.self } in
+    let new = c.make_anew-then-has_action.new.self in
+    same_calls g.M.MetaDisk.seen g.M.MetaDisk.fault_count g.M.MetaDisk.calls done done c.args.self.now mid new new refl refl refl refl (λ P p. p) (λ e. e) c.in_ok-make_anew-2.ensures.counted
+
+pub returns-in_err-make_anew-2-clause-failed : goal.returns-in_err-make_anew-2-clause-failed
+returns-in_err-make_anew-2-clause-failed g c = λ e. (
+  first_true c.args.has_action (is_some (removed_by c.args.decision.now.events)) c.if-has_action.true,
+  c.make_anew-then-has_action.ensures.calls,
+)
+
+pub returns-else-has_action-clause-counted : goal.returns-else-has_action-clause-counted
+returns-else-has_action-clause-counted g c = no_calls g.M.MetaDisk.seen g.M.MetaDisk.fault_count g.M.MetaDisk.calls done c.args.self.now (record c.args.self.now { store = c.apply_all-2.new.self }) refl refl (no_error tt)
+
+-- for want of memory it isn't
+
+pub returns-in_err-reserve_all-clause-counted : goal.returns-in_err-reserve_all-clause-counted
+returns-in_err-reserve_all-clause-counted g c =
+    let p = err_from_is_err_and c.from_residual.result c.from_residual.ensures.1 in
+    none_wanting g.M.MetaDisk.seen g.M.MetaDisk.fault_count g.M.MetaDisk.calls c.from_residual.result p.0 c.args.self.now (record c.args.self.now { store = c.reserve_all.new.self }) p.1 p.2 refl refl
+
+pub returns-in_err-image-clause-counted : goal.returns-in_err-image-clause-counted
+returns-in_err-image-clause-counted g c =
+    let p = err_from_is_err_and c.from_residual-in_err-image.result c.from_residual-in_err-image.ensures.1 in
+    none_wanting g.M.MetaDisk.seen g.M.MetaDisk.fault_count g.M.MetaDisk.calls c.from_residual-in_err-image.result p.0 c.args.self.now (record c.args.self.now { store = c.reserve_all.new.self }) p.1 p.2 refl refl
+
+pub returns-in_err-image-2-clause-counted : goal.returns-in_err-image-2-clause-counted
+returns-in_err-image-2-clause-counted g c =
+    let p = err_from_is_err_and c.from_residual-in_err-image-2.result c.from_residual-in_err-image-2.ensures.1 in
+    none_wanting g.M.MetaDisk.seen g.M.MetaDisk.fault_count g.M.MetaDisk.calls c.from_residual-in_err-image-2.result p.0 c.args.self.now (record c.args.self.now { store = c.apply_all-2.new.self }) p.1 p.2 refl refl

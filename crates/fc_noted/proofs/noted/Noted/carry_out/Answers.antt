@@ -1,12 +1,15 @@
 -- A command is settled, decided and done.
-use Rattle.std.proofs.Common.{ℕ, ◌<◌, ◌||◌, Bool, is_some, sym, subst, ◌∙◌}
+use Rattle.std.proofs.Common.{ℕ, ◌<◌, ◌||◌, Bool, is_some, sym, subst, ◌∙◌, ◌≡◌, Err, Ok, true, ap, refl}
 use Rattle.fc_meta.specs.States.{IsResting}
 use Rattle.fc_stands.proofs.CommandPhases.{decision_can}
 use Rattle.fc_stands.proofs.CommandRuns.{HasRoom, can_settle}
 use Rattle.fc_stands.proofs.Frames.{all_go_on}
 use Rattle.law_noted.specs.Records.{removed_by}
-use Rattle.fc_noted.proofs.CommandEntry.{decides_then, done_leads, done_leaves, done_stops, good_anew, lanes_undone, settled_leaves, settled_stops, undone_leaves, undone_stops, unsettled_leaves, unsettled_stops}
-use Rattle.fc_noted.specs.Making.{AnewOr}
+use Rattle.fc_noted.proofs.CommandEntry.{decides_then, done_leads, done_leaves, done_stops, good_anew, lanes_undone, settled_leaves, settled_stops, undone_leaves, undone_stops, unsettled_leaves, unsettled_stops, failed_into}
+use Rattle.fc_noted.specs.Making.{AnewOr, done}
+use Rattle.std.proofs.lemmas.Result.{err_from_is_err_and}
+use Rattle.fc_noted.proofs.MeteringNoted.{calls_of_error, no_calls, none_wanting, same_calls}
+use Rattle.fc_noted.proofs.CallsMade.{failed_as, no_error}
 use Rattle.fc_noted.proofs.noted.Noted.carry_out.Goals as goal
 
 -- ---- what each call needs
@@ -100,12 +103,14 @@ pub returns-clause-stopped : goal.returns-clause-stopped
 returns-clause-stopped g c = λ history w least room at.
     done_stops g.M.MetaDisk.seen g.M.MetaDisk.may_leave c.commanded_law.ensures c.args.self.now c.settle.new.self c.args.command.now c.requires.next c.settle.ensures.grain c.settle.ensures.lanes c.settle.ensures.others
     history w least room at c.in_ok-settling.settling c.in_ok-settling.ensures.settled c.requires.decided c.in_ok-decision.decision c.in_ok-decision.ensures c.act.new.self c.act.ensures.others c.in_ok-act.ensures.done
+    c.act.ensures.counted.size
     (subst (λ (b : Bool). AnewOr g.M.MetaDisk.seen g.M.MetaDisk.may_leave (b || is_some (removed_by c.in_ok-decision.decision.events)) c.in_ok-decision.decision c.settle.new.self c.act.new.self) c.have_effect.ensures c.in_ok-act.ensures.anew)
 
 pub returns-clause-leads : goal.returns-clause-leads
 returns-clause-leads g c = λ entry is history room w least at.
     done_leads g.M.MetaDisk.seen g.M.MetaDisk.may_leave c.commanded_law.ensures c.args.self.now c.settle.new.self c.args.command.now c.requires.next c.settle.ensures.grain c.settle.ensures.lanes c.settle.ensures.others
     history w least room at c.in_ok-settling.settling c.in_ok-settling.ensures.settled c.requires.decided c.in_ok-decision.decision c.in_ok-decision.ensures c.act.new.self c.act.ensures.others c.in_ok-act.ensures.done
+    c.act.ensures.counted.size
     (subst (λ (b : Bool). AnewOr g.M.MetaDisk.seen g.M.MetaDisk.may_leave (b || is_some (removed_by c.in_ok-decision.decision.events)) c.in_ok-decision.decision c.settle.new.self c.act.new.self) c.have_effect.ensures c.in_ok-act.ensures.anew)
     entry (is c.in_ok-settling.settling.effects c.in_ok-joined.ensures)
 
@@ -114,3 +119,41 @@ returns-clause-grain g c = c.in_ok-act.ensures.done.grain ∙ c.settle.ensures.g
 
 pub returns-clause-lanes : goal.returns-clause-lanes
 returns-clause-lanes g c = all_go_on c.args.self.now.store.lanes c.settle.new.self.store.lanes c.act.new.self.store.lanes c.settle.ensures.lanes c.in_ok-act.ensures.done.lanes
+
+-- ---- calls of the disk of metadata
+
+pub returns-in_err-settling-clause-counted : goal.returns-in_err-settling-clause-counted
+returns-in_err-settling-clause-counted g c =
+    let p = err_from_is_err_and c.from_residual.result c.from_residual.ensures.1 in
+    rw (p.1, p.2) (no_calls g.M.MetaDisk.seen g.M.MetaDisk.fault_count g.M.MetaDisk.calls (Err c.in_err-settling.field-0.0) c.args.self.now c.settle.new.self (ap (λ n. n.calls) c.settle.ensures.others) (ap (λ n. n.meta) c.settle.ensures.others)
+    (λ e. c.in_err-settling.ensures.not_failed (failed_as c.in_err-settling.field-0.0 e)))
+
+pub returns-in_err-decision-clause-counted : goal.returns-in_err-decision-clause-counted
+returns-in_err-decision-clause-counted g c =
+    let p = err_from_is_err_and c.from_residual-in_err-decision.result c.from_residual-in_err-decision.ensures.1 in
+    none_wanting g.M.MetaDisk.seen g.M.MetaDisk.fault_count g.M.MetaDisk.calls c.from_residual-in_err-decision.result p.0 c.args.self.now c.settle.new.self p.1 p.2 (ap (λ n. n.calls) c.settle.ensures.others) (ap (λ n. n.meta) c.settle.ensures.others)
+
+pub returns-in_err-joined-clause-counted : goal.returns-in_err-joined-clause-counted
+returns-in_err-joined-clause-counted g c =
+    let p = err_from_is_err_and c.from_residual-in_err-joined.result c.from_residual-in_err-joined.ensures.1 in
+    none_wanting g.M.MetaDisk.seen g.M.MetaDisk.fault_count g.M.MetaDisk.calls c.from_residual-in_err-joined.result p.0 c.args.self.now c.settle.new.self p.1 p.2 (ap (λ n. n.calls) c.settle.ensures.others) (ap (λ n. n.meta) c.settle.ensures.others)
+
+pub returns-in_err-act-clause-counted : goal.returns-in_err-act-clause-counted
+returns-in_err-act-clause-counted g c =
+    let p = err_from_is_err_and c.from_residual-in_err-act.result c.from_residual-in_err-act.ensures.1 in
+    calls_of_error g.M.MetaDisk.seen g.M.MetaDisk.fault_count g.M.MetaDisk.calls c.from_residual-in_err-act.result p.0 c.in_err-act.field-0.0 c.args.self.now c.settle.new.self c.act.new.self c.act.new.self p.1 p.2 (ap (λ n. n.calls) c.settle.ensures.others) (ap (λ n. n.meta) c.settle.ensures.others) refl refl
+    c.in_err-act.ensures.counted
+
+pub returns-clause-counted : goal.returns-clause-counted
+returns-clause-counted g c =
+    same_calls g.M.MetaDisk.seen g.M.MetaDisk.fault_count g.M.MetaDisk.calls done (Ok (c.in_ok-decision.decision, c.in_ok-joined.joined)) c.args.self.now c.settle.new.self c.act.new.self c.act.new.self (ap (λ n. n.calls) c.settle.ensures.others) (ap (λ n. n.meta) c.settle.ensures.others) refl refl
+    (λ P p. p) (λ e. absurd (no_error (c.in_ok-decision.decision, c.in_ok-joined.joined) e)) c.in_ok-act.ensures.counted
+
+pub returns-in_err-act-clause-into : goal.returns-in_err-act-clause-into
+returns-in_err-act-clause-into g c =
+    let p = err_from_is_err_and c.from_residual-in_err-act.result c.from_residual-in_err-act.ensures.1 in
+    rw (p.1, p.2) (λ e history w least room at.
+    let f = c.in_err-act.ensures.failed (failed_as c.in_err-act.field-0.0 e) in
+    failed_into g.M.MetaDisk.seen g.M.MetaDisk.may_leave c.commanded_law.ensures c.args.self.now c.settle.new.self c.args.command.now c.requires.next c.settle.ensures.grain c.settle.ensures.lanes c.settle.ensures.others
+    history w least room at c.in_ok-settling.settling c.in_ok-settling.ensures.settled c.requires.decided c.in_ok-decision.decision c.in_ok-decision.ensures c.act.new.self c.act.ensures.others
+    (subst (λ (b : Bool). (b || is_some (removed_by c.in_ok-decision.decision.events)) ≡ true) c.have_effect.ensures f.0) f.1)

@@ -1,10 +1,12 @@
 -- The entry goes on by a step of data, and its record waits.
-use Rattle.std.proofs.Common.{ap, ◌∙◌}
+use Rattle.std.proofs.Common.{refl, ap, ◌∙◌}
 use Rattle.fc_noted.proofs.Data.{data_made_by}
 use Rattle.fc_steps.specs.declared.stepping.Next.{Next}
 use Rattle.law_noted.specs.Records.{record_after}
 use Rattle.fc_noted.proofs.KeepingLanes.{step_keeps}
 use Rattle.fc_store.specs.Stepping.{lane_in}
+use Rattle.fc_noted.proofs.MeteringNoted.{no_calls}
+use Rattle.fc_noted.specs.Making.{done}
 use Rattle.fc_noted.proofs.noted.Noted.data_step.Goals as goal
 
 pub returns-clause-made : goal.returns-clause-made
@@ -18,3 +20,6 @@ returns-clause-lanes g c =
     let d = c.requires.at.3 in
     step_keeps c.args.way.place c.args.self.now.store c.step-end.new.self (lane_in d.begun c.args.way.place) c.args.way.doing c.step-end.new.doing c.step-end.ensures.others d.under
     (c.step-end.ensures.step.way (lane_in d.begun c.args.way.place) d.under)
+
+pub returns-clause-counted : goal.returns-clause-counted
+returns-clause-counted g c = no_calls g.M.MetaDisk.seen g.M.MetaDisk.fault_count g.M.MetaDisk.calls done c.args.self.now _ refl refl (λ told. absurd cc)

@@ -6,6 +6,7 @@ use Rattle.law_noted.proofs.HandEnds.{told_of}
 use Rattle.law_noted.specs.Going.{marks_left}
 use Rattle.fc_noted.proofs.Ended.{doing_taken, finish_made, stands_next}
 use Rattle.fc_noted.proofs.KeepingLanes.{holds_in_lane, lanes_go_on, lanes_still}
+use Rattle.fc_noted.proofs.MeteringNoted.{memory_alone, no_calls}
 use Rattle.fc_noted.proofs.noted.Noted.finish.Goals as goal
 
 pub log_entry-requires-clause-stands : goal.log_entry-requires-clause-stands
@@ -31,3 +32,8 @@ returns-clause-lanes g c =
     lanes_go_on c.args.self.now.store c.finish-entry.new.self c.log_entry.new.self.store
     (holds_in_lane c.args.way.place c.args.self.now.store c.finish-entry.new.self c.finish-entry.ensures.others c.finish-entry.ensures.grains)
     (lanes_still c.finish-entry.new.self c.log_entry.new.self.store (ap (λ n. n.store) c.log_entry.ensures.others))
+
+pub returns-clause-counted : goal.returns-clause-counted
+returns-clause-counted g c =
+    no_calls g.M.MetaDisk.seen g.M.MetaDisk.fault_count g.M.MetaDisk.calls c.log_entry.result c.args.self.now c.log_entry.new.self (ap (λ n. n.calls) c.log_entry.ensures.others) (ap (λ n. n.meta) c.log_entry.ensures.others)
+    (memory_alone c.log_entry.result c.log_entry.ensures.stop)

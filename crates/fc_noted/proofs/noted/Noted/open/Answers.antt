@@ -1,18 +1,14 @@
 -- Over the store that was made of the disks.
-use Rattle.std.proofs.Common.{List, map, refl, arith}
+use Rattle.std.proofs.Common.{List, map, arith}
 use Rattle.std.proofs.lemmas.List.{length-map}
-use Rattle.fc_kept.specs.Images.{meta_of}
 use Rattle.fc_mdisk.specs.Disk.{DiskState}
-use Rattle.fc_meta.proofs.Opening.{blank}
-use Rattle.law_crash.specs.Points.{nothing_kept}
-use Rattle.fc_noted.proofs.Opening.{begins_over, leaves_first}
+use Rattle.fc_noted.proofs.Opening.{begins_over, leaves_untouched}
 use Rattle.fc_noted.proofs.noted.Noted.open.Goals as goal
 
 -- refused before the disk of metadata is called
 pub returns-in-Err-clause-any_moment : goal.returns-in-Err-clause-any_moment
 returns-in-Err-clause-any_moment g c =
-    leaves_first g.M.MetaDisk.moment g.M.MetaDisk.left_since c.args.disk c.args.disk (meta_of nothing_kept) refl
-    (blank g.M.MetaDisk.seen g.M.MetaDisk.may_leave g.M.MetaDisk.moment g.M.MetaDisk.left_since g.met.M.MetaDisk.only_now c.args.disk (meta_of nothing_kept) c.requires.zeros c.requires.synced)
+    leaves_untouched g.M.MetaDisk.moment g.M.MetaDisk.left_since g.M.MetaDisk.seen g.M.MetaDisk.may_leave g.met.M.MetaDisk.only_now c.args.disk c.requires.zeros c.requires.synced
 
 pub over-requires-clause-begins : goal.over-requires-clause-begins
 over-requires-clause-begins g c =

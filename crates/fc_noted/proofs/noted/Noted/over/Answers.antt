@@ -1,20 +1,18 @@
 -- Over disks without names, with the first image.
-use Rattle.std.proofs.Common.{None, true, refl, sym, subst, ◌∙◌, arith}
+use Rattle.std.proofs.Common.{None, true, refl, sym, subst, ◌∙◌, arith, ◌/◌, ap}
 use Rattle.fc_format.specs.Ranges.{HasGoodIds}
-use Rattle.fc_kept.specs.Images.{meta_of}
 use Rattle.fc_lanes.specs.Dealing.{pools_dealt}
-use Rattle.fc_meta.proofs.Opening.{blank}
 use Rattle.fc_script.specs.declared.script.Script.TheVariants.{Over}
-use Rattle.law_crash.specs.Points.{nothing_kept}
 use Rattle.fc_noted.specs.declared.noted.Noted.{Noted}
-use Rattle.fc_noted.proofs.Opening.{begins, first_ids, image_of_nothing, leaves_first, not_log}
+use Rattle.fc_noted.proofs.Opening.{begins, first_ids, image_of_nothing, leaves_first, leaves_untouched, not_log, was_failed}
+use Rattle.fc_marks.proofs.Counting.{some_made}
+use Rattle.fc_noted.proofs.Calls.{at_once}
 use Rattle.fc_noted.proofs.noted.Noted.over.Goals as goal
 
 -- refused before the disk of metadata is called
 pub returns-in-Err-clause-any_moment : goal.returns-in-Err-clause-any_moment
 returns-in-Err-clause-any_moment g c =
-    leaves_first g.M.MetaDisk.moment g.M.MetaDisk.left_since c.args.disk c.args.disk (meta_of nothing_kept) refl
-    (blank g.M.MetaDisk.seen g.M.MetaDisk.may_leave g.M.MetaDisk.moment g.M.MetaDisk.left_since g.met.M.MetaDisk.only_now c.args.disk (meta_of nothing_kept) c.requires.zeros c.requires.synced)
+    leaves_untouched g.M.MetaDisk.moment g.M.MetaDisk.left_since g.M.MetaDisk.seen g.M.MetaDisk.may_leave g.met.M.MetaDisk.only_now c.args.disk c.requires.zeros c.requires.synced
 
 pub open-requires-clause-ids : goal.open-requires-clause-ids
 open-requires-clause-ids g c =
@@ -38,6 +36,7 @@ returns-in-Ok-open-clause-noted g c = λ disks begun.
       script = Over;
       under_way = None;
       live = true;
+      calls = 4;
     } in
     begins g.M.MetaDisk.seen g.M.MetaDisk.may_leave 4 disks n
     record {
@@ -53,6 +52,8 @@ returns-in-Ok-open-clause-noted g c = λ disks begun.
       unmarked = c.new.ensures.items;
       over = refl;
       idle = refl;
+      used = c.in-Ok-open.ensures.used;
+      called = let e = at_once 4 0 (omega arith) in omega (arith, e);
     }
 
 pub returns-clause-any_moment : goal.returns-clause-any_moment
@@ -62,3 +63,14 @@ returns-clause-any_moment g c =
 
 pub returns-clause-not_log : goal.returns-clause-not_log
 returns-clause-not_log g c = λ is. not_log c.in-Err-open.error (sym c.stop_of.ensures ∙ is)
+
+-- ---- calls of the disk of metadata
+
+pub returns-in-Ok-open-clause-counted : goal.returns-in-Ok-open-clause-counted
+returns-in-Ok-open-clause-counted g c = (refl, c.in-Ok-open.ensures.made, c.in-Ok-open.ensures.quiet, ap (λ n. n / 2) c.in-Ok-open.ensures.size)
+
+pub returns-clause-within : goal.returns-clause-within
+returns-clause-within g c = λ is. some_made 4 (g.M.MetaDisk.calls c.args.disk) (g.M.MetaDisk.calls c.in-Err-open.disk) (c.in-Err-open.ensures.stopped (was_failed c.in-Err-open.error (sym c.stop_of.ensures ∙ is)))
+
+pub returns-clause-failed : goal.returns-clause-failed
+returns-clause-failed g c = λ is. c.in-Err-open.ensures.failed (was_failed c.in-Err-open.error (sym c.stop_of.ensures ∙ is))

@@ -1,0 +1,66 @@
+-- What the count of calls says of a noted store whose metadata stays, or is made anew.
+use Rattle.std.proofs.Common.{◌≡◌, ℕ, ◌/◌, List, length, Result, Ok, Err, OnOk, refl, sym, ap, subst, ◌∙◌, arith}
+use Rattle.std.specs.Prelude.{IsErrOf}
+use Rattle.fc_base.specs.Count.{HasRisen}
+use Rattle.fc_desk.specs.Control.{ControlState}
+use Rattle.fc_entry.specs.declared.entry.Entry.{Entry}
+use Rattle.fc_format.specs.Halves.{Found, Image}
+use Rattle.fc_image.specs.declared.image.MetaImage.{MetaImage}
+use Rattle.fc_legal.specs.Whole.{Whole}
+use Rattle.fc_marks.specs.Meter.{IsCalledUpTo, IsMetered}
+use Rattle.fc_marks.specs.declared.error.NotedStop.TheVariants.{LogFull, MetaFailed, NoMemory as WantsMemory}
+use Rattle.fc_marks.specs.declared.error.NotedStop.{NotedStop}
+use Rattle.fc_meta.specs.Answers.{more_calls}
+use Rattle.fc_meta.specs.States.{disk_of, room_of}
+use Rattle.fc_noted.specs.Making.{KeepsCount}
+use Rattle.fc_noted.specs.Metered.{Metered}
+use Rattle.fc_noted.specs.Noted.{Counts}
+use Rattle.fc_noted.specs.declared.noted.Noted.{Noted}
+
+pub on_ok : {T E : Type 0} (result : Result T E) (P : Type 0) → P → OnOk result P
+on_ok (Ok x) P p = p
+on_ok (Err e) P p = tt
+
+-- an error told by another result
+pub failed_as : {T U : Type 0} (stop : NotedStop) → IsErrOf {T = T} (Err stop) MetaFailed → IsErrOf {T = U} (Err stop) MetaFailed
+failed_as stop e = cc
+
+-- what is done is no error; and the disk hasn't failed where memory was wanted, or where the history is full
+pub no_error : {T : Type 0} (x : T) → IsErrOf {T = T} (Ok x) MetaFailed → ⊥
+no_error x e = cc
+
+pub memory_wanted : {T : Type 0} → IsErrOf {T = T} (Err WantsMemory) MetaFailed → ⊥
+memory_wanted e = cc
+
+pub log_full : {T : Type 0} → IsErrOf {T = T} (Err LogFull) MetaFailed → ⊥
+log_full e = cc
+
+-- what is found is one image
+pub one_image : (f : Found) (a b : MetaImage) → f ≡ Image a → f ≡ Image b → a ≡ b
+one_image f a b e h = let q : Image a ≡ Image b = sym e ∙ h in cc
+
+-- ---- metadata stays
+
+pub counts_still : {C D : Type 0} (seen : D → List ℕ) (may_leave : D → List ℕ → Type 0) (old new : Noted C D) (entries : List Entry) (w : Whole) → new.store.control ≡ old.store.control → new.meta ≡ old.meta → new.calls ≡ old.calls →
+    Counts seen may_leave old entries w → Counts seen may_leave new entries w
+counts_still seen may_leave old new entries w control meta calls c =
+    record {
+      meter = c.meter;
+      metered = subst (λ m. Metered new.store.control.grain (room_of seen m) entries w c.meter) (sym meta)
+          (subst (λ (k : ControlState). Metered k.grain (room_of seen old.meta) entries w c.meter) (sym control) c.metered);
+      is = subst (λ m. IsMetered seen m c.meter) (sym meta) c.is;
+      calls = calls ∙ c.calls;
+    }
+
+-- ---- it is made anew, by six calls, or by fewer where the disk failed
+
+module _ {C D : Type 0} (seen : D → List ℕ) (fault_count calls : D → ℕ) (old new : Noted C D) (count : new.calls ≡ more_calls 6 old.calls) (size : length (seen (disk_of new.meta)) ≡ length (seen (disk_of old.meta))) where
+  pub fold_made : {T : Type 0} (x : T) → calls (disk_of new.meta) ≡ more_calls 6 (calls (disk_of old.meta)) → fault_count (disk_of new.meta) ≡ fault_count (disk_of old.meta) → KeepsCount seen fault_count calls (Ok x) old new
+  fold_made x called quiet =
+      record { counted = 6; made = 6; count = count; called = called; within = omega arith; whole = (refl, quiet); failed = λ e. absurd cc; size = ap (λ (n : ℕ). n / 2) size }
+
+  pub fold_short : {T : Type 0} (stop : NotedStop) → IsCalledUpTo 6 (calls (disk_of old.meta)) (calls (disk_of new.meta)) → (stop ≡ MetaFailed → HasRisen (fault_count (disk_of old.meta)) (fault_count (disk_of new.meta))) →
+      KeepsCount {T = T} seen fault_count calls (Err stop) old new
+  fold_short {T = T} stop called risen =
+      let is : IsErrOf {T = T} (Err stop) MetaFailed → stop ≡ MetaFailed = λ e. cc in
+      record { counted = 6; made = called.0; count = count; called = called.1; within = called.2; whole = tt; failed = λ e. risen (is e); size = ap (λ (n : ℕ). n / 2) size }
