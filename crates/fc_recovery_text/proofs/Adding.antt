@@ -1,30 +1,11 @@
 -- An object behind those before it in its table.
-use Rattle.std.proofs.Common.{◌≡◌, ℕ, ◌<◌, List, length, get_or, take, refl}
-use Rattle.fc_base.specs.Tables.{Fits, IsOrdered, Tables}
-use Rattle.fc_base.specs.declared.volume.Change.TheVariants.{AddGroup, AddMapping, AddVolume}
-use Rattle.fc_base.specs.declared.volume.Group.{Group}
-use Rattle.fc_base.specs.declared.volume.Mapping.{Mapping}
-use Rattle.fc_base.specs.declared.volume.Volume.{Volume}
+use Rattle.std.proofs.Common.{◌≡◌, ℕ, ◌<◌, false, List, All, length, get_or, take, find, bytes_eq, is_some}
+use Rattle.fc_base.specs.Tables.{IsOrdered}
 use Rattle.fc_registry.proofs.Copies.{comes_above, comes_new}
 
 -- a copy of the item at `i` fits the table that has the first `i`
-pub fits_volume : (t : Tables) (xs : List Volume) (i : ℕ) (item copy : Volume) → IsOrdered (λ (v : Volume). v.id.0) (λ (v : Volume). v.name) xs → i < length xs → item ≡ get_or xs i item →
-    t.volumes ≡ take i xs → copy ≡ item → Fits t (AddVolume copy)
-fits_volume t xs i item copy ordered within read so is =
-    let id_of : Volume → ℕ = λ v. v.id.0 in
-    let name_of : Volume → List ℕ = λ v. v.name in
-    (comes_above id_of name_of xs i ordered xs t.volumes item copy refl so is within read, comes_new id_of name_of xs i ordered xs t.volumes item copy refl so is within read)
-
-pub fits_group : (t : Tables) (xs : List Group) (i : ℕ) (item copy : Group) → IsOrdered (λ (g : Group). g.id.0) (λ (g : Group). g.name) xs → i < length xs → item ≡ get_or xs i item →
-    t.groups ≡ take i xs → copy ≡ item → Fits t (AddGroup copy)
-fits_group t xs i item copy ordered within read so is =
-    let id_of : Group → ℕ = λ g. g.id.0 in
-    let name_of : Group → List ℕ = λ g. g.name in
-    (comes_above id_of name_of xs i ordered xs t.groups item copy refl so is within read, comes_new id_of name_of xs i ordered xs t.groups item copy refl so is within read)
-
-pub fits_mapping : (t : Tables) (xs : List Mapping) (i : ℕ) (item copy : Mapping) → IsOrdered (λ (m : Mapping). m.id.0) (λ (m : Mapping). m.name) xs → i < length xs → item ≡ get_or xs i item →
-    t.mappings ≡ take i xs → copy ≡ item → Fits t (AddMapping copy)
-fits_mapping t xs i item copy ordered within read so is =
-    let id_of : Mapping → ℕ = λ m. m.id.0 in
-    let name_of : Mapping → List ℕ = λ m. m.name in
-    (comes_above id_of name_of xs i ordered xs t.mappings item copy refl so is within read, comes_new id_of name_of xs i ordered xs t.mappings item copy refl so is within read)
+pub comes_next : {X : Type 0} (id_of : X → ℕ) (name_of : X → List ℕ) (xs slice now : List X) (i : ℕ) (item copy : X) → IsOrdered id_of name_of xs → slice ≡ xs → now ≡ take i xs → copy ≡ item →
+    i < length slice → item ≡ get_or slice i item →
+    (All (λ y. id_of y < id_of copy) now) × (is_some (find (λ y. bytes_eq (name_of copy) (name_of y)) now) ≡ false)
+comes_next id_of name_of xs slice now i item copy ordered at so is within read =
+    (comes_above id_of name_of xs i ordered slice now item copy at so is within read, comes_new id_of name_of xs i ordered slice now item copy at so is within read)

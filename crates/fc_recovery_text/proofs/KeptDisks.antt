@@ -32,26 +32,22 @@ kinds_of disks = map (λ (d : NamedDisk). d.disk.kind) disks
 abbrev states_of : List NamedDisk → List DiskState
 states_of disks = map (λ (d : NamedDisk). d.disk) disks
 
-same_flat : (xs ys : List NamedDisk) → kinds_of xs ≡ kinds_of ys → (pool_of (states_of xs)).flat ≡ (pool_of (states_of ys)).flat
-same_flat [] [] e = refl
-same_flat [] (y ∷ ys) e = absurd cc
-same_flat (x ∷ xs) [] e = absurd cc
-same_flat (x ∷ xs) (y ∷ ys) e =
+-- disks of the same kinds are as many, by any count of kinds
+same_count : (count : List DiskState → ℕ) (one : DiskKind → ℕ) → ((d : DiskState) (ds : List DiskState) → count (d ∷ ds) ≡ one d.kind + count ds) → (xs ys : List NamedDisk) → kinds_of xs ≡ kinds_of ys →
+    count (states_of xs) ≡ count (states_of ys)
+same_count count one each [] [] e = refl
+same_count count one each [] (y ∷ ys) e = absurd cc
+same_count count one each (x ∷ xs) [] e = absurd cc
+same_count count one each (x ∷ xs) (y ∷ ys) e =
     let first : x.disk.kind ≡ y.disk.kind = cc in
     let others : kinds_of xs ≡ kinds_of ys = cc in
-    flat-cons x.disk (states_of xs) ∙ ap₂ (λ (k : DiskKind) (n : ℕ). cond (is_flat k) 1 0 + n) first (same_flat xs ys others) ∙ sym (flat-cons y.disk (states_of ys))
-
-same_thin : (xs ys : List NamedDisk) → kinds_of xs ≡ kinds_of ys → (pool_of (states_of xs)).thin ≡ (pool_of (states_of ys)).thin
-same_thin [] [] e = refl
-same_thin [] (y ∷ ys) e = absurd cc
-same_thin (x ∷ xs) [] e = absurd cc
-same_thin (x ∷ xs) (y ∷ ys) e =
-    let first : x.disk.kind ≡ y.disk.kind = cc in
-    let others : kinds_of xs ≡ kinds_of ys = cc in
-    thin-cons x.disk (states_of xs) ∙ ap₂ (λ (k : DiskKind) (n : ℕ). cond (not (is_flat k)) 1 0 + n) first (same_thin xs ys others) ∙ sym (thin-cons y.disk (states_of ys))
+    each x.disk (states_of xs) ∙ ap₂ (λ (k : DiskKind) (n : ℕ). one k + n) first (same_count count one each xs ys others) ∙ sym (each y.disk (states_of ys))
 
 same_pool : (xs ys : List NamedDisk) → kinds_of xs ≡ kinds_of ys → pool_of (states_of xs) ≡ pool_of (states_of ys)
-same_pool xs ys e = λ k. record { flat = same_flat xs ys e k; thin = same_thin xs ys e k }
+same_pool xs ys e =
+    let flat : (pool_of (states_of xs)).flat ≡ (pool_of (states_of ys)).flat = same_count (λ ds. (pool_of ds).flat) (λ k. cond (is_flat k) 1 0) flat-cons xs ys e in
+    let thin : (pool_of (states_of xs)).thin ≡ (pool_of (states_of ys)).thin = same_count (λ ds. (pool_of ds).thin) (λ k. cond (not (is_flat k)) 1 0) thin-cons xs ys e in
+    λ k. record { flat = flat k; thin = thin k }
 
 kinds_set : (disks : List NamedDisk) (p : ℕ) (d : NamedDisk) → d.disk.kind ≡ (disk_in disks p).disk.kind → kinds_of (set disks p d) ≡ kinds_of disks
 kinds_set [] p d e = refl

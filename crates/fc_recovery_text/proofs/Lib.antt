@@ -4,5 +4,6 @@ pub mod Asking
 pub mod Slots
 pub mod KeptDisks
 pub mod Reading
+pub mod Fronts
 pub mod Parts
 pub mod States

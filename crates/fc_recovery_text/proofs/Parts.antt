@@ -14,7 +14,7 @@ use Rattle.fc_io.specs.Sink.{SinkState}
 use Rattle.fc_kept.specs.Disks.{NamedDisk}
 use Rattle.fc_recovered.specs.Recovered.{AreReadied, RecoveredState}
 use Rattle.fc_recovery_text.specs.Putting.{IsPutOr, ReadsPut, StateIsPut}
-use Rattle.fc_recovery_text.specs.Recovering.{AreRead, IsImageText, KeepDisks}
+use Rattle.fc_recovery_text.specs.Recovering.{AreRead, IsImageFront, IsImageText, KeepDisks}
 use Rattle.fc_recovery_text.specs.Text.{answered_text, lines_text, rows_in}
 use Rattle.fc_recovery_text.specs.declared.state.Unwritten.{Unwritten}
 use Rattle.fc_recovery_text.specs.declared.state.Unwritten.TheVariants.{Failed, NoMemory}
@@ -33,16 +33,17 @@ answered_parts-joined request reply = four (request_text request) (codes " -> ")
 
 -- ---- a state
 
--- what is put is the text of the state
-pub put_as : (r : Result (Unit {0}) Unwritten) (text : List ℕ) (before after : SinkState) (IsText : List ℕ → Type 0) → IsText text → IsPutOr r text before after → StateIsPut r IsText before after
-put_as (Ok done) text before after IsText is put = (text, is, put)
-put_as (Err Failed) text before after IsText is put = (text, put)
-put_as (Err NoMemory) text before after IsText is put = ([], subst (λ (z : SinkState). Written before [] false z) (sym put) (Written-none before))
+-- not all of the text was put
+pub unput : (e : Unwritten) (text : List ℕ) (before after : SinkState) (IsText IsFront : List ℕ → Type 0) → IsFront [] → IsFront text → IsPutOr (Err e) text before after → StateIsPut (Err e) IsText IsFront before after
+unput Failed text before after IsText IsFront none front put = (text, front, put)
+unput NoMemory text before after IsText IsFront none front put =
+    ([], none, subst (λ (z : SinkState). Written before [] false z) (sym put) (Written-none before))
 
--- nothing of it, as its rows were not all put
-pub rows_unput : (e : Unwritten) (text : List ℕ) (before after : SinkState) (IsText : List ℕ → Type 0) → IsPutOr (Err e) text before after → StateIsPut (Err e) IsText before after
-rows_unput Failed text before after IsText put = (text, put)
-rows_unput NoMemory text before after IsText put = ([], subst (λ (z : SinkState). Written before [] false z) (sym put) (Written-none before))
+-- what is put is the text of the state
+pub put_as : (r : Result (Unit {0}) Unwritten) (text : List ℕ) (before after : SinkState) (IsText IsFront : List ℕ → Type 0) → IsText text → IsFront [] → IsFront text → IsPutOr r text before after →
+    StateIsPut r IsText IsFront before after
+put_as (Ok done) text before after IsText IsFront is none front put = (text, is, put)
+put_as (Err e) text before after IsText IsFront is none front put = unput e text before after IsText IsFront none front put
 
 -- ---- an image and its disks
 
@@ -79,5 +80,11 @@ image_put grain image disks made now before mid after of_grain of_image ready ro
     )
 
 -- the rows, and reads until the sink failed
-pub cut_in_reads : (rows : List ℕ) (made now : RecoveredState) (before mid after : SinkState) → Written before rows false mid → ReadsPut made now mid true after → (text : List ℕ) × Written before text true after
-cut_in_reads rows made now before mid after put r = (rows ++ r.text, Written-then before rows mid r.text true after put r.written)
+pub cut_in_reads : (grain : GrainSize) (image : MetaImage) (disks : List (List NamedDisk)) (made now : RecoveredState) (before mid after : SinkState) → made.grain ≡ grain → made.image ≡ image →
+    AreReadied grain image.volumes disks made.disks → Written before (lines_text (rows_in grain image)) false mid → ReadsPut made now mid true after →
+    (text : List ℕ) × IsImageFront grain image disks text now.disks × Written before text true after
+cut_in_reads grain image disks made now before mid after of_grain of_image ready rows r = (
+  lines_text (rows_in grain image) ++ r.text,
+  IsImageFront.reads made.disks now.disks r.count r.text ready (reads_over grain image made now mid after true of_grain of_image r),
+  Written-then before (lines_text (rows_in grain image)) mid r.text true after rows r.written,
+)

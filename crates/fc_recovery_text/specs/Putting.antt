@@ -32,8 +32,8 @@ pub record ReadsPut (old new : RecoveredState) (before : SinkState) (failed : Bo
   pub all : OnFalse failed (take count old.image.volumes ≡ old.image.volumes)
   pub written : Written before text failed after
 
--- A text of which this holds; or, as the sink failed or memory was wanted, a front of some text.
-abbrev pub StateIsPut : Result (Unit {0}) Unwritten → (List ℕ → Type 0) → SinkState → SinkState → Type 0
-StateIsPut (Ok done) IsText before after = (text : List ℕ) × IsText text × Written before text false after
-StateIsPut (Err Failed) IsText before after = (text : List ℕ) × Written before text true after
-StateIsPut (Err NoMemory) IsText before after = (text : List ℕ) × Written before text false after
+-- A text of which this holds; or, where the sink failed, a front of one of which the second holds; or, for want of memory, such a one.
+abbrev pub StateIsPut : Result (Unit {0}) Unwritten → (IsText IsFront : List ℕ → Type 0) → SinkState → SinkState → Type 0
+StateIsPut (Ok done) IsText IsFront before after = (text : List ℕ) × IsText text × Written before text false after
+StateIsPut (Err Failed) IsText IsFront before after = (text : List ℕ) × IsFront text × Written before text true after
+StateIsPut (Err NoMemory) IsText IsFront before after = (text : List ℕ) × IsFront text × Written before text false after

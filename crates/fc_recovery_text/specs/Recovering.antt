@@ -1,5 +1,5 @@
 -- What is written of an image and the disks of all lanes: the rows of all mappings, and what the first block of each volume reads.
-use Rattle.std.specs.Prelude.{◌≡◌, ℕ, ◌≤◌, List, [], ◌∷◌, ◌++◌, length, map, Option, Some, None}
+use Rattle.std.specs.Prelude.{◌≡◌, ◌⊎◌, ℕ, ◌≤◌, List, [], ◌∷◌, ◌++◌, length, map, take, Option, Some, None}
 use Rattle.fc_base.specs.declared.request.ReadPart.{ReadPart}
 use Rattle.fc_base.specs.declared.request.Reply.{Reply}
 use Rattle.fc_base.specs.declared.size.GrainSize.{GrainSize}
@@ -14,7 +14,7 @@ use Rattle.fc_kept.specs.Recoverable.{disks_at}
 use Rattle.fc_mdisk.specs.Disk.{DiskState}
 use Rattle.fc_mdisk.specs.Disks.{calls_of, faults_of}
 use Rattle.fc_recovered.specs.Answering.{AfterReply, IsAnswerBy}
-use Rattle.fc_recovered.specs.Recovered.{AreReadied}
+use Rattle.fc_recovered.specs.Recovered.{AreHandedBack, AreReadied}
 use Rattle.fc_recovered.specs.Showing.{shown_at}
 use Rattle.fc_recovery_text.specs.Text.{lines_text, no_image, read_text, rows_in}
 
@@ -44,6 +44,14 @@ pub record IsImageText (grain : GrainSize) (image : MetaImage) (disks : List (Li
   pub read : AreRead grain image image.volumes ready reads last
   pub text_is : text ≡ lines_text (rows_in grain image) ++ reads
 
+-- What was put of it, where the sink failed or memory was wanted, and the disks behind it: nothing; the rows, where what the volumes lack
+-- may have been made ready; or the rows, and what some first volumes read.
+pub data IsImageFront (grain : GrainSize) (image : MetaImage) (disks : List (List NamedDisk)) : List ℕ → List (List NamedDisk) → Type 0 where
+  nothing : IsImageFront grain image disks [] disks
+  rows : (last : List (List NamedDisk)) → AreHandedBack grain image.volumes disks last → IsImageFront grain image disks (lines_text (rows_in grain image)) last
+  reads : (ready last : List (List NamedDisk)) (count : ℕ) (reads : List ℕ) → AreReadied grain image.volumes disks ready →
+      AreRead grain image (take count image.volumes) ready reads last → IsImageFront grain image disks (lines_text (rows_in grain image) ++ reads) last
+
 -- ---- what is found
 
 -- An image or none.
@@ -63,11 +71,20 @@ IsStateText grain NoImage disks text last = (text ≡ no_image) × (last ≡ dis
 IsStateText grain (Image image) disks text last = IsImageText grain image disks text last
 IsStateText grain (Damaged place) disks text last = ⊥
 
+-- What was put of it.
+abbrev pub IsStateFront : GrainSize → Found → List (List NamedDisk) → List ℕ → List (List NamedDisk) → Type 0
+IsStateFront grain NoImage disks text last = ((text ≡ []) ⊎ (text ≡ no_image)) × (last ≡ disks)
+IsStateFront grain (Image image) disks text last = IsImageFront grain image disks text last
+IsStateFront grain (Damaged place) disks text last = (text ≡ []) × (last ≡ disks)
+
 -- Of a first image, which has no volumes, no disk is read.
 abbrev pub IsFirstText : GrainSize → Found → List ℕ → Type 0
 IsFirstText grain NoImage text = text ≡ no_image
 IsFirstText grain (Image image) text = text ≡ lines_text (rows_in grain image)
 IsFirstText grain (Damaged place) text = ⊥
+
+abbrev pub IsFirstFront : GrainSize → Found → List ℕ → Type 0
+IsFirstFront grain found text = (text ≡ []) ⊎ IsFirstText grain found text
 
 -- As many disks of each kind, in each lane, with no fewer calls and faults.
 abbrev pub states_in : List (List NamedDisk) → ℕ → List DiskState

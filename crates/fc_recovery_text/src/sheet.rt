@@ -1,10 +1,10 @@
 //! The chains of an image, as reports ask for them.
 
 ghost use Rattle.std.specs.Prelude.{◌≡◌, ◌++◌, IfOk, OnOk, length, option_copied, true};
-ghost use Rattle.std.specs.Option.{option_map};
 ghost use Rattle.fc_base.specs.Tables.{volume_with};
 ghost use Rattle.fc_bits.specs.Words.{grains_of};
 ghost use Rattle.fc_kept.specs.Images.{kept_in, size_in, slot_in, slots_in, tables_in};
+ghost use Rattle.fc_recovery_text.specs.Slots.{slot_holding};
 
 use fc_base::ids::VolId;
 use fc_base::outcome::NoMemory;
@@ -47,14 +47,7 @@ fn marks_of(alloc: Global, words: &Words, grains: u32) -> Result<Vec<bool>, NoMe
 /// A live slot of the chain with this label, with so many grains, of which it holds any.
 fn live_slot(alloc: Global, label: u64, slot: &MetaSlot, grains: u32) -> Result<Slot, NoMemory>
     ensures grains { IfOk result (λ made. length made.held ≡ grains) }
-    ensures slot { IfOk result (λ made. made ≡ record {
-      birth = slot.now.birth.0;
-      chain = label;
-      volume = slot.now.volume.0;
-      is_live = true;
-      mapping = option_map (λ m. m.0) slot.now.map;
-      held = made.held;
-    }) }
+    ensures slot { IfOk result (λ made. made ≡ slot_holding label slot.now true made.held) }
 {
     let birth = slot.birth.0;
     let grains = grains as usize;
@@ -71,14 +64,7 @@ fn live_slot(alloc: Global, label: u64, slot: &MetaSlot, grains: u32) -> Result<
 /// The same of a slot that may be old.
 fn bare_slot(alloc: Global, label: u64, slot: &MetaSlot, grains: u32) -> Result<Slot, NoMemory>
     ensures grains { IfOk result (λ made. length made.held ≡ grains) }
-    ensures slot { IfOk result (λ made. made ≡ record {
-      birth = slot.now.birth.0;
-      chain = label;
-      volume = slot.now.volume.0;
-      is_live = slot.now.live;
-      mapping = option_map (λ m. m.0) slot.now.map;
-      held = made.held;
-    }) }
+    ensures slot { IfOk result (λ made. made ≡ slot_holding label slot.now slot.now.live made.held) }
 {
     let mut made = live_slot(alloc, label, slot, grains)?;
     if !slot.live {

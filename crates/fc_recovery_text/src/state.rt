@@ -11,7 +11,7 @@ ghost use Rattle.fc_image.specs.declared.image.MetaImage.{MetaImage as Said};
 ghost use Rattle.fc_kept.specs.Sound.{IsSoundImage};
 ghost use Rattle.fc_recovered.specs.Recovered.{CanRecover};
 ghost use Rattle.fc_report.specs.Asked.{asked};
-ghost use Rattle.fc_recovery_text.specs.Recovering.{IsFirstText, IsFound, IsFoundGood, IsImageText, IsStateText, KeepDisks};
+ghost use Rattle.fc_recovery_text.specs.Recovering.{IsFirstFront, IsFirstText, IsFound, IsFoundGood, IsImageFront, IsImageText, IsStateFront, IsStateText, KeepDisks};
 ghost use Rattle.fc_recovery_text.specs.declared.state.Unwritten.TheVariants.{Failed as SinkFailed, NoMemory as WantsMemory};
 ghost use Rattle.fc_recovery_text.specs.Putting.{IsPutOr, NextPut, ReadsPut, StateIsPut};
 ghost use Rattle.fc_recovery_text.specs.Text.{answered_text, lines_text, no_image, read_text, rows_in};
@@ -190,7 +190,7 @@ fn put_image<D: Mdisk, K: Sink>(
     requires { CanRecover grain image lanes.items }
     ensures kept { KeepDisks lanes.items result.0.items }
     ensures put { StateIsPut result.1 (λ text. IsImageText grain image lanes.items text result.0.items)
-        (K.meaning sink.old) (K.meaning sink.new) }
+        (λ text. IsImageFront grain image lanes.items text result.0.items) (K.meaning sink.old) (K.meaning sink.new) }
 {
     match put_rows(alloc, grain, &image, sink) {
         Ok(()) => {}
@@ -225,7 +225,7 @@ pub fn put_state<D: Mdisk, K: Sink>(
     requires can { (image : Said) → recovered found.bytes ≡ FoundImage image → CanRecover grain image lanes.items }
     ensures kept { KeepDisks lanes.items result.0.items }
     ensures put { StateIsPut result.1 (λ text. IsStateText grain (recovered found.bytes) lanes.items text result.0.items)
-        (K.meaning sink.old) (K.meaning sink.new) }
+        (λ text. IsStateFront grain (recovered found.bytes) lanes.items text result.0.items) (K.meaning sink.old) (K.meaning sink.new) }
 {
     match found_on(alloc, found) {
         Ok(Some(image)) => put_image(alloc, grain, image, lanes, sink),
@@ -244,7 +244,7 @@ pub fn put_first_state<K: Sink>(
     requires good { IsFoundGood (recovered found.bytes) }
     requires bare { (image : Said) → recovered found.bytes ≡ FoundImage image → IsSoundImage image × (image.volumes ≡ []) }
     ensures { StateIsPut result (λ text. IsFirstText grain (recovered found.bytes) text)
-        (K.meaning sink.old) (K.meaning sink.new) }
+        (λ text. IsFirstFront grain (recovered found.bytes) text) (K.meaning sink.old) (K.meaning sink.new) }
 {
     match found_on(alloc, found)? {
         Some(image) => put_rows(alloc, grain, &image, sink),
