@@ -1,18 +1,17 @@
 -- The disks that come back have counted the calls and faults that are told.
-use Rattle.std.proofs.Common.{◌≡◌, ◌⊎◌, ℕ, ◌+◌, ◌-◌, ◌^◌, ◌<◌, ◌≤◌, List, [], ◌∷◌, length, get_or, map, inl, inr, sym, subst, ◌∙◌, ap, arith}
+use Rattle.std.proofs.Common.{◌≡◌, ℕ, ◌-◌, ◌<◌, ◌≤◌, List, [], ◌∷◌, length, get_or, inl, inr, subst, ◌∙◌, arith}
 use Rattle.std.specs.Prelude.{sum, slice_index_or}
 use Rattle.std.specs.List.{sum_by}
 use Rattle.std.proofs.lemmas.List.Sums.{sum_by-append, sum_by-cons}
 use Rattle.std.proofs.lemmas.Option.{get_or_from_slice_get, slice_get_within}
-use Rattle.fc_base.specs.Count.{HasRisen}
 use Rattle.fc_call.specs.declared.status.Status.{Status}
 use Rattle.fc_call.specs.declared.status.Status.TheVariants as status
-use Rattle.fc_grains.specs.Grains.{AreAllOf, pool_of}
+use Rattle.fc_grains.specs.Grains.{pool_of}
 use Rattle.fc_held.specs.Held.{HoldAllOf}
 use Rattle.fc_kept.specs.Disks.{NamedDisk}
 use Rattle.fc_kept.specs.Recoverable.{disks_at}
 use Rattle.fc_lane.specs.Lane.{LaneView}
-use Rattle.fc_lanes.specs.Dealing.{AreAllIn, AreByLane}
+use Rattle.fc_lanes.specs.Dealing.{AreAllIn}
 use Rattle.fc_legal.specs.Whole.{Whole}
 use Rattle.fc_mdisk.specs.Disk.{DiskState}
 use Rattle.fc_mdisk.specs.Disks.{calls_of, faults_of}

@@ -14,10 +14,9 @@ use Rattle.fc_noted.proofs.Safe.{as_it_was}
 use Rattle.fc_noted.specs.Noted.{IsNotedAt}
 use Rattle.fc_noted.specs.Stopping.{Leaves, MoreFailed}
 use Rattle.fc_noted.specs.declared.noted.Noted.{Noted}
-use Rattle.fc_owner.specs.StoreRuns.{Start}
-use Rattle.fc_stopped.specs.Lines.{HasAnswered, HasLeft}
+use Rattle.fc_stopped.specs.Lines.{HasAnswered, HasLeft, StopStart}
 
-module _ {C D : Type 0} (seen : D → List ℕ) (may_leave : D → List ℕ → Type 0) where
+module _ {C D : Type 0} (seen : D → List ℕ) (may_leave : D → List ℕ → Type 0) (fault_count calls : D → ℕ) where
   resting_leaves : (n : Noted C D) (history : HistoryState) (w : Whole) (least : List Row) → IsNotedAt seen may_leave n history w least → length history.entries ≤ 262144 → (left : Agenda) →
       Leaves n.store.control.grain may_leave n w left
   resting_leaves n history w least at room left =
@@ -39,9 +38,9 @@ module _ {C D : Type 0} (seen : D → List ℕ) (may_leave : D → List ℕ → 
       }
 
   -- Lines that were answered leave what is told of them, whatever is left to be asked.
-  pub answered_left : (n : Noted C D) (stop : Option NotedStop) (start : Start) (lines : List (List ℕ)) (history : HistoryState) (a : HasAnswered seen may_leave n stop start lines history) →
-      length history.entries ≤ 262144 → (left : Agenda) (Holds : Agenda → Whole → Type 0) → Holds left a.last → HasLeft seen may_leave n start history Holds
-  answered_left n stop start lines history a room left Holds holds =
+  pub answered_left : (n : Noted C D) (stop : Option NotedStop) (s : StopStart) (lines : List (List ℕ)) (history : HistoryState) (a : HasAnswered seen may_leave fault_count calls n stop s lines history) →
+      length history.entries ≤ 262144 → (left : Agenda) (Holds : Agenda → Whole → Type 0) → Holds left a.last → HasLeft seen may_leave fault_count calls n s.start history Holds
+  answered_left n stop s lines history a room left Holds holds =
       record {
         lanes = a.lanes;
         last = a.last;

@@ -1,6 +1,8 @@
 -- Lemmas, one subject a file.
 pub mod Lanes
 pub mod Apart
+pub mod Counting
+pub mod Paying
 pub mod Counted
 pub mod Left
 pub mod Reading

@@ -19,24 +19,26 @@ adds_all held text after is = record { front = text; rest = []; split = sym (app
 pub adds_none : (held : Option (List ℕ)) (text : List ℕ) → AddsFront held text held
 adds_none held text = record { front = []; rest = text; split = refl; added = held_nothing held }
 
--- Of another text of which this holds too.
-pub put_as : (known : List ℕ) (Of To : List ℕ → Type 0) (is : Status) (before after : SinkState) → ((text : List ℕ) → Of text → To text) → StatePut known Of is before after → StatePut known To is before after
-put_as known Of To status.Done before after turns put = (put.0, turns put.0 put.1, put.2, put.3)
-put_as known Of To status.Usage before after turns put = absurd put
-put_as known Of To status.ReadFault before after turns put = absurd put
-put_as known Of To status.WriteFault before after turns put = put
-put_as known Of To status.NoMemory before after turns put = put
-put_as known Of To status.LogFull before after turns put = absurd put
-put_as known Of To status.TooLong before after turns put = absurd put
-put_as known Of To status.Unended before after turns put = absurd put
-put_as known Of To status.Refuted before after turns put = absurd put
+-- Where a text that the first holds of is one that the second holds of: of a whole text, and of what was put of one.
+pub put_as : (known : List ℕ) (Of OfFront To ToFront : List ℕ → Type 0) (is : Status) (before after : SinkState) → ((text : List ℕ) → Of text → To text) → ((text : List ℕ) → OfFront text → ToFront text) →
+    StatePut known Of OfFront is before after → StatePut known To ToFront is before after
+put_as known Of OfFront To ToFront status.Done before after turns fronts put = (put.0, turns put.0 put.1, put.2, put.3)
+put_as known Of OfFront To ToFront status.Usage before after turns fronts put = absurd put
+put_as known Of OfFront To ToFront status.ReadFault before after turns fronts put = absurd put
+put_as known Of OfFront To ToFront status.WriteFault before after turns fronts put = (put.0, fronts put.0 put.1, put.2, put.3)
+put_as known Of OfFront To ToFront status.NoMemory before after turns fronts put = (put.0, fronts put.0 put.1, put.2)
+put_as known Of OfFront To ToFront status.LogFull before after turns fronts put = absurd put
+put_as known Of OfFront To ToFront status.TooLong before after turns fronts put = absurd put
+put_as known Of OfFront To ToFront status.Unended before after turns fronts put = absurd put
+put_as known Of OfFront To ToFront status.Refuted before after turns fronts put = absurd put
 
-module _ (known : List ℕ) (IsText : List ℕ → Type 0) (before mid put : SinkState) (is : Status) (after : SinkState) (first : Written before known false mid) where
+module _ (known : List ℕ) (IsText IsFront : List ℕ → Type 0) (before mid put : SinkState) (is : Status) (after : SinkState) (first : Written before known false mid)
+    (whole : (text : List ℕ) → IsText text → IsFront text) where
   abbrev Ends : Status → Type 0
-  Ends s = StatePut known IsText s before after
+  Ends s = StatePut known IsText IsFront s before after
 
-  -- The known text is put, and then one behind it or a front of that; what waits is sent on.
-  pub state_put : (written : Result (Unit {0}) Unwritten) → StateIsPut written IsText mid put → StatusWritten written is put after → StatePut known IsText is before after
+  -- The known text is put, and then one behind it or a front of that; what waits is sent on. A whole text is a front of itself.
+  pub state_put : (written : Result (Unit {0}) Unwritten) → StateIsPut written IsText IsFront mid put → StatusWritten written is put after → StatePut known IsText IsFront is before after
   state_put (Ok done) state sent =
       let both : Written before (known ++ state.0) false put = Written-then before known mid state.0 false put first state.2 in
       ends state.0 state.1 both sent.0 sent.1
@@ -45,25 +47,31 @@ module _ (known : List ℕ) (IsText : List ℕ → Type 0) (before mid put : Sin
           ((is ≡ status.Done) × (after.sent ≡ after.held)) ⊎ ((is ≡ status.WriteFault) × HasRisen put.faults after.faults) → Ends is
       ends text right both held (inl done) = subst Ends (sym done.0) (text, right, held ∙ both.held, done.1)
       ends text right both held (inr failed) =
-          subst Ends (sym failed.0)
-          (text, adds_all before.held (known ++ text) after.held (held ∙ both.held), HasRisen-before before.faults put.faults after.faults both.faults.kept failed.1)
+          subst Ends (sym failed.0) (
+            text,
+            whole text right,
+            adds_all before.held (known ++ text) after.held (held ∙ both.held),
+            HasRisen-before before.faults put.faults after.faults both.faults.kept failed.1,
+          )
   state_put (Err Failed) state sent =
-      let both : Written before (known ++ state.0) true put = Written-then before known mid state.0 true put first state.1 in
+      let both : Written before (known ++ state.0) true put = Written-then before known mid state.0 true put first state.2 in
       subst Ends (sym sent.0) (
         state.0,
+        state.1,
         subst (λ (k : SinkState). AddsFront before.held (known ++ state.0) k.held) (sym sent.1) both.front,
         subst (λ (k : SinkState). HasRisen before.faults k.faults) (sym sent.1) both.faults.cause,
       )
   state_put (Err NoMemory) state sent =
-      let both : Written before (known ++ state.0) false put = Written-then before known mid state.0 false put first state.1 in
-      subst Ends (sym sent.0) (state.0, adds_all before.held (known ++ state.0) after.held (ap (λ (k : SinkState). k.held) sent.1 ∙ both.held))
+      let both : Written before (known ++ state.0) false put = Written-then before known mid state.0 false put first state.2 in
+      subst Ends (sym sent.0) (state.0, state.1, adds_all before.held (known ++ state.0) after.held (ap (λ (k : SinkState). k.held) sent.1 ∙ both.held))
 
 -- Not all of the known text was put.
-pub known_cut : (known : List ℕ) (IsText : List ℕ → Type 0) (before after : SinkState) → Written before known true after → StatePut known IsText status.WriteFault before after
-known_cut known IsText before after written =
+pub known_cut : (known : List ℕ) (IsText IsFront : List ℕ → Type 0) (before after : SinkState) → IsFront [] → Written before known true after →
+    StatePut known IsText IsFront status.WriteFault before after
+known_cut known IsText IsFront before after nothing written =
     let cut : Written before (known ++ []) true after = Written-cut before known [] after written in
-    ([], cut.front, cut.faults.cause)
+    ([], nothing, cut.front, cut.faults.cause)
 
 -- Nothing was put, for want of memory.
-pub none_put : (known : List ℕ) (IsText : List ℕ → Type 0) (sink : SinkState) → StatePut known IsText status.NoMemory sink sink
-none_put known IsText sink = ([], adds_none sink.held (known ++ []))
+pub none_put : (known : List ℕ) (IsText IsFront : List ℕ → Type 0) (sink : SinkState) → IsFront [] → StatePut known IsText IsFront status.NoMemory sink sink
+none_put known IsText IsFront sink nothing = ([], nothing, adds_none sink.held (known ++ []))

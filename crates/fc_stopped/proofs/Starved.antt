@@ -23,7 +23,7 @@ use Rattle.fc_stopped.proofs.Putting.{adds_none}
 use Rattle.fc_stopped.proofs.Sessions.{some_taken}
 use Rattle.fc_stopped.specs.Ending.{over_disks}
 use Rattle.fc_stopped.specs.Reading.{stop_reading}
-use Rattle.fc_stopped.specs.Stopped.{AnswersSome, AnswersUpTo, ComeBack, EndsBy, StopEnds}
+use Rattle.fc_stopped.specs.Stopped.{AnswersSome, AnswersUpTo, ComeBack, EndsBy, StandsBehind, StopEnds}
 
 -- Of no lines there is no entry, and nothing is left to be asked.
 pub no_lines : (call : Call) → call.history.entries ≡ [] → OfFirstTaken call.source' [] (AnswersUpTo call (first_told call.disks) (Asking []))
@@ -50,13 +50,13 @@ no_entries call none = subst (λ (es : List Entry). IsLegal K64 (first_told call
 pub main_told : (disks : List DiskState) (history : HistoryState) → history ≡ NoHistory → IsOf (first_told disks) history
 main_told disks history is = subst (IsOf (first_told disks)) (sym is) record { actors = refl; entries = refl }
 
-starved_by : (number : ℕ) (call : Call) → call.status ≡ status.NoMemory → call.source' ≡ call.source → call.sink' ≡ call.sink → call.history.entries ≡ [] →
-    IsOf (first_told call.disks) call.history ⊎ ((call.status ≡ status.NoMemory) × (call.history ≡ empty)) → StopEnds number call
-starved_by number call is source sink none named =
+starved_by : (number half : ℕ) (call : Call) → call.status ≡ status.NoMemory → call.source' ≡ call.source → call.sink' ≡ call.sink → call.history.entries ≡ [] →
+    IsOf (first_told call.disks) call.history ⊎ ((call.status ≡ status.NoMemory) × (call.history ≡ empty)) → StopEnds number half call
+starved_by number half call is source sink none named =
     let w : Whole = first_told call.disks in
     let front : AddsFront call.sink.held (history_text call.history ++ []) call.sink'.held =
     subst (λ (k : SinkState). AddsFront call.sink.held (history_text call.history ++ []) k.held) (sym sink) (adds_none call.sink.held (history_text call.history ++ [])) in
-    let ends : EndsBy number status.NoMemory call w [] = (omega arith, none_answered call none, ([], front)) in
+    let ends : EndsBy number half status.NoMemory call w [] = (omega arith, none_answered call none, ([], StandsBehind.nothing, front)) in
     let back : ComeBack status.NoMemory call.disks call.disks' w = tt in
     record {
       last = w;
@@ -64,15 +64,15 @@ starved_by number call is source sink none named =
       named = named;
       bytes = [];
       gave = gave_nothing call.source call.source' source;
-      ends = subst (λ (s : Status). EndsBy number s call w []) (sym is) ends;
+      ends = subst (λ (s : Status). EndsBy number half s call w []) (sym is) ends;
       disks = subst (λ (s : Status). ComeBack s call.disks call.disks' w) (sym is) back;
     }
 
 -- Nobody had a name yet.
-pub starved_stop : (number : ℕ) (call : Call) → call.status ≡ status.NoMemory → call.source' ≡ call.source → call.sink' ≡ call.sink → call.history ≡ empty → StopEnds number call
-starved_stop number call is source sink none = starved_by number call is source sink (ap (λ (h : HistoryState). h.entries) none) (inr (is, none))
+pub starved_stop : (number half : ℕ) (call : Call) → call.status ≡ status.NoMemory → call.source' ≡ call.source → call.sink' ≡ call.sink → call.history ≡ empty → StopEnds number half call
+starved_stop number half call is source sink none = starved_by number half call is source sink (ap (λ (h : HistoryState). h.entries) none) (inr (is, none))
 
 -- `main` had its name.
-pub starved_named : (number : ℕ) (call : Call) → call.status ≡ status.NoMemory → call.source' ≡ call.source → call.sink' ≡ call.sink → call.history ≡ NoHistory → StopEnds number call
-starved_named number call is source sink main =
-    starved_by number call is source sink (ap (λ (h : HistoryState). h.entries) main) (inl (main_told call.disks call.history main))
+pub starved_named : (number half : ℕ) (call : Call) → call.status ≡ status.NoMemory → call.source' ≡ call.source → call.sink' ≡ call.sink → call.history ≡ NoHistory → StopEnds number half call
+starved_named number half call is source sink main =
+    starved_by number half call is source sink (ap (λ (h : HistoryState). h.entries) main) (inl (main_told call.disks call.history main))

@@ -13,16 +13,18 @@ use Rattle.fc_kept.specs.Sound.{IsSoundImage}
 use Rattle.fc_marks.specs.declared.error.NotedStop.{NotedStop}
 use Rattle.fc_marks.specs.declared.error.NotedStop.TheVariants.{LogFull, MetaFailed, MetaFull, NoMemory}
 use Rattle.fc_mdisk.specs.Disk.{DiskState}
+use Rattle.fc_meta.specs.States.{room_of}
 use Rattle.fc_metadisk.specs.Stop.{StopLeaves, StopState}
 use Rattle.fc_noted.specs.Noted.{IsNotedAt, NoHistory}
 use Rattle.fc_noted.specs.declared.noted.Noted.{Noted}
 use Rattle.fc_owner.specs.FirstTold.{first_told}
 use Rattle.fc_owner.specs.StoreRuns.{Start}
-use Rattle.fc_recovery_text.specs.Recovering.{IsFirstText}
+use Rattle.fc_recovery_text.specs.Recovering.{IsFirstFront, IsFirstText}
 use Rattle.fc_recovery_text.specs.declared.state.Unwritten.{Unwritten}
 use Rattle.fc_recovery_text.specs.declared.state.Unwritten.TheVariants.{Failed, NoMemory as WantsMemory}
 use Rattle.fc_run.specs.Output.{IsWritten}
-use Rattle.fc_stopped.specs.Lines.{HasLanes}
+use Rattle.fc_stopped.specs.Countdown.{calls_by_stop, faults_by_stop}
+use Rattle.fc_stopped.specs.Lines.{HasCounted, HasLanes, StopStart}
 use Rattle.fc_stopped.specs.Text.{far_text}
 use Rattle.fc_stopped.specs.declared.far.Far.TheVariants.{ToCall, ToFull}
 
@@ -37,12 +39,17 @@ own_disks disks = map (λ (d : NamedDisk). d.disk) disks
 abbrev pub all_disks : List (List NamedDisk) → List DiskState
 all_disks lanes = flat_map own_disks lanes
 
--- A noted store before the first line, over these disks.
-pub record IsOpened {C : Type 0} (n : Noted C StopState) (old : List DiskState) : Type 0 where
+-- What a session goes by over these disks, whose disk of metadata stops at a call and has halves of so many bytes.
+abbrev pub goes_by : ℕ → ℕ → List DiskState → StopStart
+goes_by number half disks = record { start = over_disks disks; number = number; half = half }
+
+-- A noted store before the first line, over these disks and a disk of metadata that stops at this call.
+pub record IsOpened {C : Type 0} (n : Noted C StopState) (old : List DiskState) (number : ℕ) : Type 0 where
   pub live : n.live ≡ true
   pub grain : n.store.control.grain ≡ K64
   pub lanes : HasLanes (over_disks old) n.store.lanes
   pub at : IsNotedAt (λ (d : StopState). d.bytes) StopLeaves n NoHistory (first_told old) []
+  pub counted : HasCounted (λ (d : StopState). d.bytes) StopLeaves faults_by_stop calls_by_stop n (goes_by number (room_of (λ (d : StopState). d.bytes) n.meta) old)
 
 -- Why the first image isn't on the disk, or isn't known to be: what stands there is none, or one without volumes.
 pub record IsUnopened (bytes : List ℕ) (stop : NotedStop) : Type 0 where
@@ -64,18 +71,19 @@ StatusWritten (Ok done) is before after =
 StatusWritten (Err Failed) is before after = (is ≡ status.WriteFault) × (after ≡ before)
 StatusWritten (Err WantsMemory) is before after = (is ≡ status.NoMemory) × (after ≡ before)
 
--- A text that is known, and one behind it of which this holds; or a front of such a text.
-abbrev pub StatePut : List ℕ → (List ℕ → Type 0) → Status → SinkState → SinkState → Type 0
-StatePut known IsText status.Done before after =
+-- A text that is known, and one behind it of which this holds; or a front of it and of one of which the second holds.
+abbrev pub StatePut : List ℕ → (IsText IsFront : List ℕ → Type 0) → Status → SinkState → SinkState → Type 0
+StatePut known IsText IsFront status.Done before after =
     (text : List ℕ) × IsText text × (after.held ≡ held_with before.held (known ++ text)) × (after.sent ≡ after.held)
-StatePut known IsText status.WriteFault before after =
-    (text : List ℕ) × AddsFront before.held (known ++ text) after.held × HasRisen before.faults after.faults
-StatePut known IsText status.NoMemory before after = (text : List ℕ) × AddsFront before.held (known ++ text) after.held
-StatePut known IsText other before after = ⊥
+StatePut known IsText IsFront status.WriteFault before after =
+    (text : List ℕ) × IsFront text × AddsFront before.held (known ++ text) after.held × HasRisen before.faults after.faults
+StatePut known IsText IsFront status.NoMemory before after =
+    (text : List ℕ) × IsFront text × AddsFront before.held (known ++ text) after.held
+StatePut known IsText IsFront other before after = ⊥
 
 -- Of a call without entries.
 abbrev pub EndsUnopened : ℕ → Found → NotedStop → Status → SinkState → SinkState → Type 0
-EndsUnopened call found MetaFailed is before after = StatePut (far_text (ToCall call)) (IsFirstText K64 found) is before after
-EndsUnopened call found MetaFull is before after = StatePut (far_text ToFull) (IsFirstText K64 found) is before after
+EndsUnopened call found MetaFailed is before after = StatePut (far_text (ToCall call)) (IsFirstText K64 found) (IsFirstFront K64 found) is before after
+EndsUnopened call found MetaFull is before after = StatePut (far_text ToFull) (IsFirstText K64 found) (IsFirstFront K64 found) is before after
 EndsUnopened call found NoMemory is before after = (is ≡ status.NoMemory) × (after ≡ before)
 EndsUnopened call found LogFull is before after = ⊥

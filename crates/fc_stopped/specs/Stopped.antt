@@ -9,7 +9,6 @@ use Rattle.fc_call.specs.Call.{Call, empty}
 use Rattle.fc_call.specs.declared.status.Status.{Status}
 use Rattle.fc_call.specs.declared.status.Status.TheVariants as status
 use Rattle.fc_changed.specs.Row.{Row}
-use Rattle.fc_entry.specs.HistoryState.{HistoryState}
 use Rattle.fc_entry.specs.Lines.{all_lines, ended_lines}
 use Rattle.fc_entry.specs.Text.{history_text}
 use Rattle.fc_grains.specs.Grains.{pool_of}
@@ -27,13 +26,14 @@ use Rattle.fc_mdisk.specs.Disks.{calls_of, faults_of}
 use Rattle.fc_noted.specs.Stopping.{IsAskedSoon}
 use Rattle.fc_owner.specs.FirstTold.{first_told}
 use Rattle.fc_run.specs.Input.{Gave, IsAtEnd, OfFirstTaken, input_limit}
+use Rattle.fc_stopped.specs.Calls.{CallsBy}
 use Rattle.fc_stopped.specs.Ending.{all_disks}
 use Rattle.fc_stopped.specs.Reading.{stop_reading}
-use Rattle.fc_recovery_text.specs.Recovering.{IsImageText}
+use Rattle.fc_recovery_text.specs.Recovering.{IsImageFront, IsImageText}
 use Rattle.fc_recovery_text.specs.Text.{no_image}
 use Rattle.fc_stopped.specs.Text.{far_text}
 use Rattle.fc_stopped.specs.declared.far.Far.{Far}
-use Rattle.fc_stopped.specs.declared.far.Far.TheVariants.{ToEnd, ToCall}
+use Rattle.fc_stopped.specs.declared.far.Far.TheVariants.{ToEnd}
 use Rattle.law_noted.specs.One.{IsSafe}
 
 -- ---- the lines
@@ -54,11 +54,6 @@ abbrev pub LinesBy : Far → Call → Whole → Agenda → List ℕ → Type 0
 LinesBy ToEnd call last left bytes = IsAtEnd call.source' × AnswersAll call last (all_lines bytes) × (left ≡ Session [])
 LinesBy far call last left bytes = OfFirstTaken call.source' bytes (AnswersUpTo call last left)
 
--- The call that failed is the one that was asked for.
-abbrev pub IsAskedFor : ℕ → Far → Type 0
-IsAskedFor number (ToCall failed) = failed ≡ number
-IsAskedFor number far = Unit {0}
-
 -- ---- what is recovered
 
 -- The disks counted more faults than are told, or their count stands still.
@@ -74,46 +69,66 @@ pub data IsState (call : Call) (last : Whole) (left : Agenda) : List ℕ → Typ
       IsSafe K64 disks (kept_in image) last least asked (DisksFailedMore last (all_disks disks)) →
       IsImageText K64 image disks text behind → call.disks' ≡ all_disks behind → IsState call last left text
 
+-- What was put of such a text, where the sink failed or memory was wanted: nothing; that there is no image; or a first part of what an
+-- image and the disks say.
+pub data IsLeftFront (call : Call) (last : Whole) (left : Agenda) : List ℕ → Type 0 where
+  nothing : IsLeftFront call last left []
+  none : call.history.entries ≡ [] → IsLeftFront call last left no_image
+  first : (image : MetaImage) (disks : List (List NamedDisk)) (text : List ℕ) (behind : List (List NamedDisk))
+      (least : List Row) (asked : Option Request) → IsAskedSoon K64 last left asked →
+      IsSafe K64 disks (kept_in image) last least asked (DisksFailedMore last (all_disks disks)) →
+      IsImageFront K64 image disks text behind → call.disks' ≡ all_disks behind → IsLeftFront call last left text
+
 -- ---- what is written
 
 -- The sink got this text and nothing else, and all that it holds was sent on.
 abbrev pub GotAll : Call → List ℕ → Type 0
 GotAll call text = (call.sink'.held ≡ held_with call.sink.held text) × (call.sink'.sent ≡ call.sink'.held)
 
--- It got a front of a text that begins with the history's.
-abbrev pub GotHistoryFront : Call → Type 0
-GotHistoryFront call = (behind : List ℕ) × AddsFront call.sink.held (history_text call.history ++ behind) call.sink'.held
+-- What stands behind the text of a history that wasn't written whole: nothing; or how far the session came, and what was put of the state.
+pub data StandsBehind (number half : ℕ) (call : Call) (last : Whole) (bytes : List ℕ) : List ℕ → Type 0 where
+  nothing : StandsBehind number half call last bytes []
+  state : (far : Far) (left : Agenda) (text : List ℕ) → LinesBy far call last left bytes →
+      CallsBy number half far call.history.entries last left → IsLeftFront call last left text →
+      StandsBehind number half call last bytes (far_text far ++ text)
+
+-- The sink got a front of the history's text and that.
+abbrev pub GotHistoryFront : ℕ → ℕ → Call → Whole → List ℕ → Type 0
+GotHistoryFront number half call last bytes =
+    (behind : List ℕ) × StandsBehind number half call last bytes behind
+    × AddsFront call.sink.held (history_text call.history ++ behind) call.sink'.held
 
 -- By the status: which lines are answered, and what was written.
-abbrev pub EndsBy : ℕ → Status → Call → Whole → List ℕ → Type 0
-EndsBy number status.Done call last bytes =
+abbrev pub EndsBy : ℕ → ℕ → Status → Call → Whole → List ℕ → Type 0
+EndsBy number half status.Done call last bytes =
     (length bytes ≤ input_limit)
-    × ((far : Far) × (left : Agenda) × (text : List ℕ) × IsAskedFor number far × LinesBy far call last left bytes
+    × ((far : Far) × (left : Agenda) × (text : List ℕ) × LinesBy far call last left bytes × CallsBy number half far call.history.entries last left
     × IsState call last left text × GotAll call (history_text call.history ++ far_text far ++ text))
-EndsBy number status.ReadFault call last bytes =
+EndsBy number half status.ReadFault call last bytes =
     HasRisen call.source.faults call.source'.faults
     × (length bytes ≤ input_limit)
     × AnswersAll call last (ended_lines bytes)
     × GotAll call (history_text call.history)
-EndsBy number status.TooLong call last bytes =
+EndsBy number half status.TooLong call last bytes =
     (kept : List ℕ) × (past : ℕ)
     × (bytes ≡ kept ++ past ∷ [])
     × (length kept ≡ input_limit)
     × AnswersAll call last (ended_lines kept)
     × GotAll call (history_text call.history)
-EndsBy number status.LogFull call last bytes =
+EndsBy number half status.LogFull call last bytes =
     (length bytes ≤ input_limit)
     × OfFirstTaken call.source' bytes (λ lines. WantsMore K64 stop_reading (first_told call.disks) (map single lines) call.history.entries last)
     × (length call.history.entries ≡ 262144)
     × GotAll call (history_text call.history)
-EndsBy number status.WriteFault call last bytes =
+EndsBy number half status.WriteFault call last bytes =
     HasRisen call.sink.faults call.sink'.faults
     × (length bytes ≤ input_limit + 1)
     × OfFirstTaken call.source' bytes (AnswersSome call last)
-    × GotHistoryFront call
-EndsBy number status.NoMemory call last bytes =
-    (length bytes ≤ input_limit) × OfFirstTaken call.source' bytes (AnswersSome call last) × GotHistoryFront call
-EndsBy number other call last bytes = ⊥
+    × GotHistoryFront number half call last bytes
+EndsBy number half status.NoMemory call last bytes =
+    (length bytes ≤ input_limit) × OfFirstTaken call.source' bytes (AnswersSome call last)
+    × GotHistoryFront number half call last bytes
+EndsBy number half other call last bytes = ⊥
 
 -- The disks come back, as many of each kind, with at least the calls and faults that are told; for want of memory nothing is said of
 -- them.
@@ -122,11 +137,11 @@ ComeBack status.NoMemory old new last = Unit {0}
 ComeBack other old new last = (pool_of new ≡ pool_of old) × (sum last.calls ≤ calls_of new) × (sum last.faults ≤ faults_of new)
 
 -- The history is legal, and all this holds of one thing that is told at its end.
-pub record StopEnds (number : ℕ) (call : Call) : Type 0 where
+pub record StopEnds (number half : ℕ) (call : Call) : Type 0 where
   pub last : Whole
   pub legal : IsLegal K64 (first_told call.disks) call.history.entries last
   pub named : IsOf last call.history ⊎ ((call.status ≡ status.NoMemory) × (call.history ≡ empty))
   pub bytes : List ℕ
   pub gave : Gave call.source bytes call.source'
-  pub ends : EndsBy number call.status call last bytes
+  pub ends : EndsBy number half call.status call last bytes
   pub disks : ComeBack call.status call.disks call.disks' last

@@ -10,6 +10,7 @@
 //! session came), and `until`, which has the call; of the definitions `specs/Stopped` (how a call ends).
 #![tactic(auto)]
 
+mod countdown;
 mod far;
 mod lines;
 mod nowhere;

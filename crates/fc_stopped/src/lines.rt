@@ -1,13 +1,12 @@
 //! A noted store answers the lines of a session.
 
-ghost use Rattle.std.specs.Prelude.{◌≡◌, ◌≤◌, List, Ok, IfOk, length, true, ℕ};
+ghost use Rattle.std.specs.Prelude.{◌≡◌, ◌≤◌, List, Ok, IfOk, length, ℕ};
 ghost use Rattle.fc_blocks.specs.Reading.{script_line};
 ghost use Rattle.fc_changed.specs.Row.{Row};
 ghost use Rattle.fc_legal.specs.Whole.{Whole};
-ghost use Rattle.fc_noted.specs.Making.{KeepLanes};
-ghost use Rattle.fc_noted.specs.Noted.{IsNotedAt};
-ghost use Rattle.fc_owner.specs.StoreRuns.{Start};
-ghost use Rattle.fc_stopped.specs.Lines.{LineIsAnswered, noted_runs, stop_told};
+ghost use Rattle.fc_noted.specs.Making.{KeepLanes, KeepsCount};
+ghost use Rattle.fc_noted.specs.Noted.{CanBegin, IsNotedAt};
+ghost use Rattle.fc_stopped.specs.Lines.{LineIsAnswered, StopStart, noted_runs, stop_told};
 ghost use Rattle.fc_stopped.specs.Reading.{own_fault, own_reading, without_blocks};
 
 use fc_base::command::{Line, Scope, ScriptLine};
@@ -81,13 +80,12 @@ fn told(stop: NotedStop) -> Stop
 impl<D: Mdisk, M: MetaDisk> NotedLines<D, M> {
     /// Answers a line as it was read.
     fn answer(&mut self, line: ScriptLine, history: &mut History) -> Result<(), NotedStop>
-        requires at { (w : Whole) × (least : List Row) × IsNotedAt M.seen M.may_leave self.old.noted history.old w least }
-        requires live { self.old.noted.live ≡ true }
-        requires room { length history.old.entries ≤ 262144 }
+        requires begins { CanBegin M.seen M.may_leave self.old.noted history.old }
         requires read { (bytes : List ℕ) × (line ≡ script_line (own_reading bytes)) }
         ensures answered { (bytes : List ℕ) (w : Whole) (least : List Row) → line ≡ script_line (own_reading bytes) →
-            IsNotedAt M.seen M.may_leave self.old.noted history.old w least → LineIsAnswered M.seen M.may_leave result self.old.noted self.new.noted bytes w history.old history.new }
+            IsNotedAt M.seen M.may_leave self.old.noted history.old w least → LineIsAnswered M.seen M.may_leave M.fault_count M.calls result self.old.noted self.new.noted bytes w history.old history.new }
         ensures lanes { KeepLanes self.old.noted.store self.new.noted.store }
+        ensures counted { KeepsCount M.seen M.fault_count M.calls result self.old.noted self.new.noted }
         ensures limit { length history.new.entries ≤ 262144 }
         ensures others { self.new ≡ record self.old { noted = self.new.noted } }
     {
@@ -99,9 +97,9 @@ impl<D: Mdisk, M: MetaDisk> NotedLines<D, M> {
 }
 
 impl<D: Mdisk, M: MetaDisk> Answers for NotedLines<D, M> {
-    ghost Start = { Start };
+    ghost Start = { StopStart };
 
-    ghost runs = { λ l start. noted_runs M.seen M.may_leave l.noted l.stop start };
+    ghost runs = { λ l start. noted_runs M.seen M.may_leave M.fault_count M.calls l.noted l.stop start };
 
     fn line(&mut self, line: &[u8], history: &mut History) -> Result<(), Stop> {
         let read = match read_own(self.alloc, line) {

@@ -5,24 +5,27 @@ ghost use Rattle.std.specs.List.{All};
 ghost use Rattle.fc_call.specs.Call.{Call, empty};
 ghost use Rattle.fc_entry.specs.Text.{HasNames, history_text};
 ghost use Rattle.fc_entry.specs.Written.{Written};
-ghost use Rattle.fc_format.specs.Halves.{Image as FoundImage, recovered};
+ghost use Rattle.fc_format.specs.Halves.{Image as FoundImage, half_size, recovered};
 ghost use Rattle.fc_image.specs.declared.image.MetaImage.{MetaImage as Said};
 ghost use Rattle.fc_legal.specs.Agenda.{Agenda};
 ghost use Rattle.fc_legal.specs.Whole.{Whole};
 ghost use Rattle.fc_mdisk.specs.Disk.{DiskState, IsFresh};
-ghost use Rattle.fc_metadisk.specs.Stop.{StopLeaves, found_after, new_stop};
+ghost use Rattle.fc_meta.specs.States.{room_of};
+ghost use Rattle.fc_metadisk.specs.Stop.{StopLeaves, StopState, found_after, new_stop};
 ghost use Rattle.fc_noted.specs.Noted.{NoHistory};
 ghost use Rattle.fc_noted.specs.Stopping.{AreCounted, Leaves};
 ghost use Rattle.fc_recovered.specs.Recovered.{CanRecover};
-ghost use Rattle.fc_recovery_text.specs.Recovering.{IsFoundGood, IsStateText, KeepDisks};
+ghost use Rattle.fc_recovery_text.specs.Recovering.{IsFoundGood, IsStateFront, IsStateText, KeepDisks};
 ghost use Rattle.fc_run.specs.Output.{IsWritten};
 ghost use Rattle.fc_run.specs.Takes.{EachGave};
+ghost use Rattle.fc_stopped.specs.Calls.{half_of_disk};
 ghost use Rattle.fc_stopped.specs.Ending.{EndsUnopened, IsOpened, IsUnopened, StatePut, StatusWritten, TextEnds, all_disks, over_disks, own_disks};
 ghost use Rattle.fc_stopped.specs.Far.{status_unwritten};
 ghost use Rattle.fc_stopped.specs.Lines.{HasLanes};
-ghost use Rattle.fc_stopped.specs.Stopped.{ComeBack, IsState, StopEnds};
+ghost use Rattle.fc_stopped.specs.Stopped.{ComeBack, IsLeftFront, IsState, StopEnds};
 ghost use Rattle.fc_stopped.specs.Text.{far_text};
 
+use crate::countdown::Countdown;
 use crate::far::{Far, far_of, put_far};
 use crate::lines::NotedLines;
 use crate::nowhere::Nowhere;
@@ -140,7 +143,7 @@ fn status_of<K: Sink>(written: Result<(), Unwritten>, sink: &mut K) -> Status
 fn end_at<D: Mdisk, K: Sink>(
     alloc: Global,
     far: Far,
-    meta: StopMeta,
+    meta: Countdown,
     lanes: Vec<LaneDisks<D>>,
     sink: &mut K,
     history: &History,
@@ -149,8 +152,8 @@ fn end_at<D: Mdisk, K: Sink>(
     requires good { IsFoundGood (recovered (found_after meta)) }
     requires can { (image : Said) → recovered (found_after meta) ≡ FoundImage image → CanRecover GrainSize.K64 image lanes.items }
     ensures kept { KeepDisks lanes.items result.0.items }
-    ensures put { StatePut (history_text history.now ++ far_text far) (λ text. IsStateText GrainSize.K64 (recovered (found_after meta)) lanes.items text result.0.items) result.1
-        (K.meaning sink.old) (K.meaning sink.new) }
+    ensures put { StatePut (history_text history.now ++ far_text far) (λ text. IsStateText GrainSize.K64 (recovered (found_after meta)) lanes.items text result.0.items)
+        (λ text. IsStateFront GrainSize.K64 (recovered (found_after meta)) lanes.items text result.0.items) result.1 (K.meaning sink.old) (K.meaning sink.new) }
 {
     match put_text_and_far(history, far, sink) {
         Ok(()) => {
@@ -165,7 +168,7 @@ fn end_at<D: Mdisk, K: Sink>(
 fn end_far<D: Mdisk, K: Sink>(
     alloc: Global,
     far: Far,
-    noted: Noted<D, StopMeta>,
+    noted: Noted<D, Countdown>,
     sink: &mut K,
     disks: &mut Vec<D>,
     history: &History,
@@ -175,7 +178,7 @@ fn end_far<D: Mdisk, K: Sink>(
     requires lanes { (old : List DiskState) × HasLanes (over_disks old) noted.store.lanes × (length old ≤ vec_capacity disks.old) }
     requires none { disks.old.items ≡ [] }
     ensures put { (call : Call) (last : Whole) (left : Agenda) → call.disks' ≡ map D.meaning disks.new.items → Leaves GrainSize.K64 StopLeaves noted last left →
-        StatePut (history_text history.now ++ far_text far) (IsState call last left) result (K.meaning sink.old) (K.meaning sink.new) }
+        StatePut (history_text history.now ++ far_text far) (IsState call last left) (IsLeftFront call last left) result (K.meaning sink.old) (K.meaning sink.new) }
     ensures disks { (old : List DiskState) (last : Whole) → HasLanes (over_disks old) noted.store.lanes → AreCounted last noted.store.lanes →
         ComeBack result old (map D.meaning disks.new.items) last }
 {
@@ -203,7 +206,7 @@ fn end_with<K: Sink>(status: Status, sink: &mut K, history: &History) -> Status
 /// The same, of a noted store, whose disks come back as they are.
 fn end_short<D: Mdisk, K: Sink>(
     status: Status,
-    noted: Noted<D, StopMeta>,
+    noted: Noted<D, Countdown>,
     sink: &mut K,
     disks: &mut Vec<D>,
     history: &History,
@@ -224,7 +227,7 @@ fn end_short<D: Mdisk, K: Sink>(
 fn end_unopened<K: Sink>(
     alloc: Global,
     call: u32,
-    meta: StopMeta,
+    meta: Countdown,
     stop: NotedStop,
     sink: &mut K,
 ) -> Status
@@ -250,16 +253,16 @@ fn end_unopened<K: Sink>(
 fn run_noted<D: Mdisk, S: Source, K: Sink>(
     alloc: Global,
     call: u32,
-    noted: Noted<D, StopMeta>,
+    noted: Noted<D, Countdown>,
     source: &mut S,
     sink: &mut K,
     disks: &mut Vec<D>,
     history: &mut History,
 ) -> Status
     requires begun { history.old ≡ NoHistory }
-    requires stands { (old : List DiskState) × IsOpened noted old × (length old ≤ vec_capacity disks.old) }
+    requires stands { (old : List DiskState) × IsOpened noted old call × (length old ≤ vec_capacity disks.old) }
     requires none { disks.old.items ≡ [] }
-    ensures ends { (old : List DiskState) → IsOpened noted old → StopEnds call
+    ensures ends { (old : List DiskState) → IsOpened noted old call → StopEnds call (room_of (λ (d : StopState). d.bytes) noted.meta)
         (record {
           status = result;
           source = S.meaning source.old;
@@ -308,7 +311,7 @@ pub fn run_over<D: Mdisk, S: Source, K: Sink>(
     requires fresh { All IsFresh (map D.meaning disks.old.items) }
     requires counted { 0 < call }
     requires zeros { (size : ℕ) × (meta ≡ new_stop size call) }
-    ensures ends { StopEnds call
+    ensures ends { StopEnds call (half_size meta.bytes)
         (record {
           status = result;
           source = S.meaning source.old;
@@ -335,7 +338,7 @@ pub fn run_over<D: Mdisk, S: Source, K: Sink>(
         Ok(store) => store,
         Err(NoMemory) => return Status::NoMemory,
     };
-    match Noted::over(alloc, store, count, meta) {
+    match Noted::over(alloc, store, count, Countdown::of(meta)) {
         Ok(noted) => run_noted(alloc, call, noted, source, sink, disks, history),
         Err((store, meta, stop)) => {
             store.give_disks(disks);
@@ -359,7 +362,7 @@ pub fn run_until<D: Mdisk, S: Source, K: Sink>(
     requires few { vec_len disks.old < 2 ^ 30 }
     requires fresh { All IsFresh (map D.meaning disks.old.items) }
     requires counted { 0 < call }
-    ensures ends { StopEnds call
+    ensures ends { StopEnds call half_of_disk
         (record {
           status = result;
           source = S.meaning source.old;

@@ -13,6 +13,7 @@ use Rattle.fc_run.proofs.TakesLemmas.{EachGave-none}
 use Rattle.fc_run.specs.Takes.{EachGave}
 use Rattle.fc_run.specs.declared.form.Form.TheVariants.{Summary}
 use Rattle.fc_stopped.proofs.Starved.{starved_stop}
+use Rattle.fc_stopped.specs.Calls.{half_of_disk}
 use Rattle.fc_stopped.specs.Stopped.{EndsBy, StopEnds}
 use Rattle.fc_top.proofs.DrillLemmas.{drill_ends}
 use Rattle.fc_top.proofs.PlainLemmas.{starved_ends}
@@ -23,8 +24,8 @@ use Rattle.fc_top.specs.Theorem.{Theorem}
 use Rattle.fc_verdict.proofs.CheckLemmas.{starved_check}
 
 -- A stop whose words are in the grammar isn't Usage.
-pub stop_ran : (number : ℕ) (call : Call) → StopEnds number call → call.status ≢ status.Usage
-stop_ran number call ends usage = subst (λ (s : Status). EndsBy number s call ends.last ends.bytes) usage ends.ends
+pub stop_ran : (number half : ℕ) (call : Call) → StopEnds number half call → call.status ≢ status.Usage
+stop_ran number half call ends usage = subst (λ (s : Status). EndsBy number half s call ends.last ends.bytes) usage ends.ends
 
 -- What is asked for was run.
 pub theorem_run :
@@ -99,7 +100,7 @@ starved (Drill number) call built is idle =
     drill_ends number source call idle.source (EachGave-none source)
     (starved_ends Summary K64 source source call is refl idle.sink (ap (λ (h : HistoryState). h.entries) idle.history) (inr idle.history))
 starved Check call built is idle = starved_check call is idle.source idle.sink idle.disks idle.history
-starved (Stop number) call built is idle = starved_stop number call is idle.source idle.sink idle.history
+starved (Stop number) call built is idle = starved_stop number half_of_disk call is idle.source idle.sink idle.history
 
 -- Memory was wanted to read the words.
 pub theorem_starved :

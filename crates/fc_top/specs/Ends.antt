@@ -9,6 +9,7 @@ use Rattle.fc_call.specs.declared.status.Status.TheVariants as status
 use Rattle.fc_gen.specs.Session.{session_text}
 use Rattle.fc_io.specs.Source.{SourceState}
 use Rattle.fc_run.specs.declared.form.Form.TheVariants.{Summary}
+use Rattle.fc_stopped.specs.Calls.{half_of_disk}
 use Rattle.fc_stopped.specs.Stopped.{StopEnds}
 use Rattle.fc_top.specs.PlainEnds.{PlainEnds}
 use Rattle.fc_top.specs.Traced.{run_form}
@@ -51,4 +52,4 @@ Ends None call = AsksNothing call
 Ends (Some (Run options)) call = RunEnds options call
 Ends (Some (Drill number)) call = DrillEnds number call
 Ends (Some Check) call = CheckEnds call
-Ends (Some (Stop number)) call = StopEnds number call
+Ends (Some (Stop number)) call = StopEnds number half_of_disk call

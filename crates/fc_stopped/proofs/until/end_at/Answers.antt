@@ -6,7 +6,8 @@ use Rattle.fc_format.specs.Halves.{recovered}
 use Rattle.fc_kept.specs.Disks.{NamedDisk}
 use Rattle.fc_metadisk.specs.Stop.{MemState, found_after}
 use Rattle.fc_recovery_text.specs.Putting.{StateIsPut}
-use Rattle.fc_recovery_text.specs.Recovering.{IsStateText}
+use Rattle.fc_recovery_text.proofs.Fronts.{nothing_front, state_front}
+use Rattle.fc_recovery_text.specs.Recovering.{IsStateFront, IsStateText}
 use Rattle.fc_stopped.proofs.Putting.{known_cut, state_put}
 use Rattle.fc_stopped.specs.Text.{far_text}
 use Rattle.fc_stopped.proofs.until.end_at.Goals as goal
@@ -19,12 +20,17 @@ returns-in-Ok-clause-put g c =
     let lanes : List (List NamedDisk) = c.put_state-lanes.result.0.items in
     let mid = g.K.Sink.meaning c.put_text_and_far.new.sink in
     let put = g.K.Sink.meaning c.put_state-lanes.new.sink in
-    state_put (history_text c.args.history.now ++ far_text c.args.far) (λ text. IsStateText K64 (recovered (found_after c.args.meta)) c.args.lanes.items text lanes) (g.K.Sink.meaning c.args.sink.now) mid put
-    c.status_of.result (g.K.Sink.meaning c.status_of.new.sink) c.in-Ok.ensures c.put_state-lanes.result.1
-    (subst (λ (m : MemState). StateIsPut c.put_state-lanes.result.1 (λ text. IsStateText K64 (recovered m.bytes) c.args.lanes.items text lanes) mid put) c.after.ensures c.put_state-lanes.ensures.put)
+    let had : List (List NamedDisk) = c.args.lanes.items in
+    state_put (history_text c.args.history.now ++ far_text c.args.far) (λ text. IsStateText K64 (recovered (found_after c.args.meta)) had text lanes)
+    (λ text. IsStateFront K64 (recovered (found_after c.args.meta)) had text lanes) (g.K.Sink.meaning c.args.sink.now) mid put
+    c.status_of.result (g.K.Sink.meaning c.status_of.new.sink) c.in-Ok.ensures (λ text is. state_front K64 (recovered (found_after c.args.meta)) had text lanes is) c.put_state-lanes.result.1
+    (subst (λ (m : MemState). StateIsPut c.put_state-lanes.result.1 (λ text. IsStateText K64 (recovered m.bytes) had text lanes) (λ text. IsStateFront K64 (recovered m.bytes) had text lanes) mid put)
+    c.after.ensures c.put_state-lanes.ensures.put)
     c.status_of.ensures
 
 pub returns-in-Err-clause-put : goal.returns-in-Err-clause-put
 returns-in-Err-clause-put g c =
-    known_cut (history_text c.args.history.now ++ far_text c.args.far) (λ text. IsStateText K64 (recovered (found_after c.args.meta)) c.args.lanes.items text c.args.lanes.items)
-    (g.K.Sink.meaning c.args.sink.now) (g.K.Sink.meaning c.put_text_and_far.new.sink) c.in-Err.ensures
+    let had : List (List NamedDisk) = c.args.lanes.items in
+    known_cut (history_text c.args.history.now ++ far_text c.args.far) (λ text. IsStateText K64 (recovered (found_after c.args.meta)) had text had)
+    (λ text. IsStateFront K64 (recovered (found_after c.args.meta)) had text had) (g.K.Sink.meaning c.args.sink.now) (g.K.Sink.meaning c.put_text_and_far.new.sink)
+    (nothing_front K64 (recovered (found_after c.args.meta)) had) c.in-Err.ensures

@@ -6,13 +6,13 @@ use Rattle.fc_format.specs.Halves.{recovered}
 use Rattle.fc_kept.specs.Disks.{NamedDisk}
 use Rattle.fc_mdisk.specs.Disk.{DiskState}
 use Rattle.fc_metadisk.specs.Stop.{StopState, found_after}
-use Rattle.fc_recovery_text.specs.Recovering.{IsFoundGood, IsStateText}
+use Rattle.fc_recovery_text.specs.Recovering.{IsFoundGood, IsStateFront, IsStateText}
 use Rattle.fc_stopped.proofs.Counted.{AreBack, all_back, read_back}
-use Rattle.fc_stopped.proofs.Found.{found_can, found_good, found_state}
+use Rattle.fc_stopped.proofs.Found.{found_can, found_front, found_good, found_state}
 use Rattle.fc_stopped.proofs.Lanes.{count_back}
 use Rattle.fc_stopped.proofs.Putting.{none_put, put_as}
 use Rattle.fc_stopped.specs.Ending.{all_disks, over_disks}
-use Rattle.fc_stopped.specs.Stopped.{IsState}
+use Rattle.fc_stopped.specs.Stopped.{IsLeftFront, IsState}
 use Rattle.fc_stopped.specs.Text.{far_text}
 use Rattle.fc_stopped.proofs.until.end_far.Goals as goal
 
@@ -37,11 +37,16 @@ pub returns-in-Ok-clause-put : goal.returns-in-Ok-clause-put
 returns-in-Ok-clause-put g c = λ call last left came leaves.
     let behind : List (List NamedDisk) = c.end_at-lanes.result.0.items in
     put_as (history_text c.args.history.now ++ far_text c.args.far)
-    (λ text. IsStateText K64 (recovered (found_after c.in-Ok.meta)) c.in-Ok.lanes.items text behind) (IsState call last left)
+    (λ text. IsStateText K64 (recovered (found_after c.in-Ok.meta)) c.in-Ok.lanes.items text behind)
+    (λ text. IsStateFront K64 (recovered (found_after c.in-Ok.meta)) c.in-Ok.lanes.items text behind) (IsState call last left) (IsLeftFront call last left)
     c.end_at-lanes.result.1 (g.K.Sink.meaning c.args.sink.now) (g.K.Sink.meaning c.end_at-lanes.new.sink)
     (λ text is.
     found_state c.args.noted last left c.requires.lanes.0 leaves call c.in-Ok.lanes.items behind text c.in-Ok.ensures.held
     (subst (λ (d : StopState). IsStateText K64 (recovered (found_after d)) c.in-Ok.lanes.items text behind) c.in-Ok.ensures.meta is)
+    (came ∙ c.give_back.ensures))
+    (λ text is.
+    found_front c.args.noted last left c.requires.lanes.0 leaves call c.in-Ok.lanes.items behind text c.in-Ok.ensures.held
+    (subst (λ (d : StopState). IsStateFront K64 (recovered (found_after d)) c.in-Ok.lanes.items text behind) c.in-Ok.ensures.meta is)
     (came ∙ c.give_back.ensures))
     c.end_at-lanes.ensures.put
 
@@ -54,4 +59,4 @@ returns-in-Ok-clause-disks g c = λ old last has counted.
 -- for want of memory nothing is put
 pub returns-clause-put : goal.returns-clause-put
 returns-clause-put g c = λ call last left came leaves.
-    none_put (history_text c.args.history.now ++ far_text c.args.far) (IsState call last left) (g.K.Sink.meaning c.args.sink.now)
+    none_put (history_text c.args.history.now ++ far_text c.args.far) (IsState call last left) (IsLeftFront call last left) (g.K.Sink.meaning c.args.sink.now) IsLeftFront.nothing

@@ -5,6 +5,7 @@ use Rattle.fc_args.specs.declared.asked.Asked.{Asked}
 use Rattle.fc_args.specs.declared.asked.Asked.TheVariants.{Run, Drill, Check, Stop}
 use Rattle.fc_call.specs.Call.{Call}
 use Rattle.fc_run.proofs.TakesLemmas.{EachGave-none}
+use Rattle.fc_stopped.specs.Calls.{half_of_disk}
 use Rattle.fc_stopped.specs.Stopped.{StopEnds}
 use Rattle.fc_top.proofs.TheoremLemmas.{stop_ran, theorem_of}
 use Rattle.fc_top.proofs.WordLemmas.{run-uncached}
@@ -90,5 +91,5 @@ returns-in-Stop g c =
       disks' = map g.D.Mdisk.meaning c.run_until.new.disks.items;
       history = c.run_until.new.history;
     } in
-    let ends : StopEnds c.in-Stop.call call = c.run_until.ensures.ends in
-    record { theorem = theorem_of c.args.asked (Stop c.in-Stop.call) call c.in-Stop.is (stop_ran c.in-Stop.call call ends) c.run_until.ensures.takes c.run_until.ensures.limit ends }
+    let ends : StopEnds c.in-Stop.call half_of_disk call = c.run_until.ensures.ends in
+    record { theorem = theorem_of c.args.asked (Stop c.in-Stop.call) call c.in-Stop.is (stop_ran c.in-Stop.call half_of_disk call ends) c.run_until.ensures.takes c.run_until.ensures.limit ends }
