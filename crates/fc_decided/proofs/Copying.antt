@@ -1,5 +1,5 @@
 -- Plain volumes after a trigger are as large as before; and effects on states change none.
-use Rattle.std.proofs.Common.{◌≡◌, Bool, true, false, cond, List, [], ◌∷◌, ◌++◌, length, map, Some, None, refl, sym, ap, subst, ◌∙◌, Contains, inl, inr}
+use Rattle.std.proofs.Common.{◌≡◌, Bool, true, false, cond, List, [], ◌∷◌, length, map, Some, None, refl, sym, ap, subst, ◌∙◌, Contains, inl, inr}
 use Rattle.std.specs.Prelude.{◌==◌}
 use Rattle.std.proofs.lemmas.Bool.{cases_Bool, eqb-true, eq-eqb, both_ways}
 use Rattle.fc_base.specs.declared.ids.VolId.{VolId}
@@ -10,15 +10,12 @@ use Rattle.fc_base.specs.declared.size.GrainSize.{GrainSize}
 use Rattle.fc_base.specs.declared.volume.Volume.{Volume}
 use Rattle.fc_entry.specs.Picture.{PlainVolume, Picture}
 use Rattle.fc_entry.specs.PlainStep.{source_in, now_in, after_trigger, after_effect, after_effects}
+use Rattle.fc_legal.proofs.Each.{Each}
 use Rattle.fc_legal.specs.Stands.{ArePlain}
 use Rattle.fc_moves.proofs.Search.{cases_option}
 use Rattle.fc_decided.proofs.Lists.{first_in, later_in, in_cases, none_in}
 
 -- ---- effects
-
-pub effects_append : (grain : GrainSize) (picture : Picture) (es fs : List Effect) → after_effects grain picture (es ++ fs) ≡ after_effects grain (after_effects grain picture es) fs
-effects_append grain picture [] fs = refl
-effects_append grain picture (e ∷ es) fs = effects_append grain (after_effect grain picture e) es fs
 
 -- Effects that change no plain volume.
 abbrev pub IsQuiet : Effect → Type 0
@@ -27,8 +24,7 @@ IsQuiet (Gone m) = Unit {0}
 IsQuiet effect = ⊥
 
 abbrev pub AreQuiet : List Effect → Type 0
-AreQuiet [] = Unit {0}
-AreQuiet (e ∷ es) = IsQuiet e × AreQuiet es
+AreQuiet es = Each IsQuiet es
 
 quiet_one : (grain : GrainSize) (picture : Picture) (e : Effect) → IsQuiet e → after_effect grain picture e ≡ picture
 quiet_one grain picture (State m state) quiet = refl
@@ -38,10 +34,6 @@ quiet_one grain picture e quiet = absurd quiet
 pub quiet_effects : (grain : GrainSize) (picture : Picture) (es : List Effect) → AreQuiet es → after_effects grain picture es ≡ picture
 quiet_effects grain picture [] quiet = refl
 quiet_effects grain picture (e ∷ es) quiet = ap (λ (p : Picture). after_effects grain p es) (quiet_one grain picture e quiet.0) ∙ quiet_effects grain picture es quiet.1
-
-pub quiet_append : (es fs : List Effect) → AreQuiet es → AreQuiet fs → AreQuiet (es ++ fs)
-quiet_append [] fs first second = second
-quiet_append (e ∷ es) fs first second = (first.0, quiet_append es fs first.1 second)
 
 -- ---- sizes
 

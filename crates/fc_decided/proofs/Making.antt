@@ -14,6 +14,7 @@ use Rattle.fc_base.specs.Tables.{Tables, volume_with, volume_named, after_change
 use Rattle.fc_base.specs.declared.command.Unit.{Unit as SizeUnit}
 use Rattle.fc_base.specs.declared.decision.LaneEvent.TheVariants.{Make}
 use Rattle.fc_base.specs.declared.fault.Kind.TheVariants.{Vdisk}
+use Rattle.fc_base.specs.declared.fault.Refusal.{Refusal}
 use Rattle.fc_base.specs.declared.fault.Refusal.TheVariants.{BadValue, Limit, NoDisk}
 use Rattle.fc_base.specs.declared.fault.ValueOf.TheVariants.{Size}
 use Rattle.fc_base.specs.declared.ids.VolId.{VolId}
@@ -24,6 +25,7 @@ use Rattle.fc_base.specs.declared.volume.Change.TheVariants.{AddVolume}
 use Rattle.fc_base.specs.declared.volume.Mapping.{Mapping}
 use Rattle.fc_base.specs.declared.volume.Volume.{Volume}
 use Rattle.fc_books.specs.Accesses.{access_in}
+use Rattle.fc_books.specs.Books.{Books}
 use Rattle.fc_books.specs.Making.{new_volume, make_volume}
 use Rattle.fc_books.specs.Refused.{mkvdisk_refused, name_taken}
 use Rattle.fc_books.specs.Sound.{AreTables, Agree, IsOfTables, HasGrains}
@@ -227,17 +229,20 @@ module _ (grain : GrainSize) (decisions : ℕ) (w : Whole) (v : Volume) where
       }
 
 -- in the stated order
-pub can_come : (grain : GrainSize) (w : Whole) (name : Option (List ℕ)) (size : ℕ) (unit : Option SizeUnit) (thin : Bool) → mkvdisk_refused grain w.books name size unit thin ≡ None → CanCome w (new_volume grain w.books name size unit thin)
-can_come grain w name size unit thin e =
-    let b = w.books in
+abbrev pub volume_refusals : GrainSize → Books → Option (List ℕ) → ℕ → Option SizeUnit → Bool → List (Option Refusal)
+volume_refusals grain b name size unit thin =
     let bytes = size * unit_bytes unit in
-    let none = none_of
-    (where_ ((bytes == 0) || not (bytes % grain_bytes grain == 0)) (BadValue Size)
+    where_ ((bytes == 0) || not (bytes % grain_bytes grain == 0)) (BadValue Size)
     ∷ where_ (nat_le 512 (length b.tables.volumes)) (Limit 512)
     ∷ where_ (nat_lt 8192 (all_grains b.tables.volumes + bytes / grain_bytes grain)) (Limit 8192)
     ∷ name_taken b Vdisk (volume_name name b.next_volume)
     ∷ where_ (lacks_disk (kind_of thin) b.pools) NoDisk
-    ∷ []) e in
+    ∷ []
+
+pub can_come : (grain : GrainSize) (w : Whole) (name : Option (List ℕ)) (size : ℕ) (unit : Option SizeUnit) (thin : Bool) → mkvdisk_refused grain w.books name size unit thin ≡ None → CanCome w (new_volume grain w.books name size unit thin)
+can_come grain w name size unit thin e =
+    let b = w.books in
+    let none = none_of (volume_refusals grain b name size unit thin) e in
     record {
       id = refl;
       room = below (length b.tables.volumes) (none_where (nat_le 512 (length b.tables.volumes)) (Limit 512) none.1.0);

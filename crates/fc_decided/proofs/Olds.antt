@@ -9,8 +9,9 @@ use Rattle.fc_base.specs.Sheet.{Slot, Sheet, slot_at, slot_id, column}
 use Rattle.fc_base.specs.SheetFacts.{HasSizes, IsSound}
 use Rattle.fc_base.specs.declared.ids.SlotId.{SlotId}
 use Rattle.fc_moves.proofs.Readers.{IsHolder, reader_is, reader_from, one_holder, own_holder}
-use Rattle.fc_sheets.proofs.Places.{Removed, up, up_in, up_rises, up_le, le_up, up_apart, down, removed_at, remove_is, push_is, push_here}
+use Rattle.fc_sheets.proofs.Places.{Removed, up, up_in, up_apart, down, removed_at, remove_is, push_is, push_here}
 use Rattle.fc_sheets.proofs.Aging.{alone, with_alone}
+use Rattle.fc_sheets.proofs.Forcing.{held_exact}
 use Rattle.fc_decided.proofs.Counting.{held_below, uncounted_old}
 use Rattle.fc_decided.proofs.Forced.{all_held}
 use Rattle.fc_decided.proofs.Lists.{in_cases}
@@ -24,19 +25,6 @@ abbrev pub ReadsNone : Slot → Type 0
 ReadsNone t = (t.is_live ≡ false) ⊎ (list_all (λ b. b) t.held ≡ true)
 
 -- ---- one is taken out
-
-reads_small : (big small : List Slot) (p : ℕ) → Removed big small p → (g a i : ℕ) → IsHolder (column big g) (up p a) (up p i) → IsHolder (column small g) a i
-reads_small big small p r g a i h =
-    let ea = removed_at big small p r a in
-    let ei = removed_at big small p r i in
-    record {
-      before = up_le p i a h.before;
-      one_chain = ap (λ (t : Slot). t.chain) ei ∙ (h.one_chain ∙ ap (λ (t : Slot). t.chain) (sym ea));
-      holds = ap (λ (t : Slot). get_or t.held g false) ei ∙ h.holds;
-      nearest = λ j ij ja q t.
-          let ej = removed_at big small p r j in
-          h.nearest (up p j) (up_rises p i j ij) (le_up p j a ja) (ap (λ (z : Slot). z.chain) (sym ej) ∙ (q ∙ ap (λ (z : Slot). z.chain) ea)) (ap (λ (z : Slot). get_or z.held g false) (sym ej) ∙ t);
-    }
 
 -- a live slot that holds every grain is nobody's reader but its own
 reader_apart : (slots : List Slot) (p g i a : ℕ) → HasSizes slots → p < length slots → ReadsNone (slot_at slots p) → (slot_at slots a).is_live ≡ true → IsHolder (column slots g) a i → i ≢ p → a ≢ p
@@ -58,7 +46,7 @@ needed_small big small p r sizes none i (g, a, e) =
     elim (down big small p r a n.there) [
       | inl same ↦ absurd (apart same)
       | inr d ↦
-          let h : IsHolder (column small g) d.0 i = reads_small big small p r g d.0 i (subst (λ (z : ℕ). IsHolder (column big g) z (up p i)) (sym d.2) n.reads) in
+          let h : IsHolder (column small g) d.0 i = held_exact big small p r g d.0 i (subst (λ (z : ℕ). IsHolder (column big g) z (up p i)) (sym d.2) n.reads) in
           let live : (slot_at small d.0).is_live ≡ true = ap (λ (t : Slot). t.is_live) (removed_at big small p r d.0) ∙ (ap (λ z. (slot_at big z).is_live) d.2 ∙ n.is_live) in
           let found = reader_from (column small g) i i d.0 d.1 live (λ q. n.other (sym d.2 ∙ ap (up p) q)) h in
           (g, found.0, found.2)

@@ -11,6 +11,7 @@ use Rattle.fc_base.specs.Tables.{Tables, volume_with, mapping_with, mapping_name
 use Rattle.fc_base.specs.declared.decision.LaneEvent.{LaneEvent}
 use Rattle.fc_base.specs.declared.decision.LaneEvent.TheVariants.{Forget, Access as SetAccess}
 use Rattle.fc_base.specs.declared.fault.Kind.TheVariants.{Fcmap}
+use Rattle.fc_base.specs.declared.fault.Refusal.{Refusal}
 use Rattle.fc_base.specs.declared.fault.Refusal.TheVariants.{Limit, BadValue, SameVolume, SizeDiffers}
 use Rattle.fc_base.specs.declared.fault.ValueOf.TheVariants.{CopyRate, CleanRate}
 use Rattle.fc_base.specs.declared.ids.GroupId.{GroupId}
@@ -177,36 +178,26 @@ module _ (grain : GrainSize) (decisions : ℕ) (w : Whole) (s t : Volume) (name 
       }
 
   -- in the stated order
+  abbrev refusals : Option GrainSize → List (Option Refusal)
+  refusals grain_size =
+      where_ (s.id.0 == t.id.0) SameVolume
+      ∷ where_ (not (s.grains == t.grains)) (SizeDiffers s.grains t.grains)
+      ∷ grain_differs grain grain_size
+      ∷ pair_taken w.books s t
+      ∷ of_asked (of_group w.books) group (λ g. None)
+      ∷ where_ (is_over 150 copy_rate) (BadValue CopyRate)
+      ∷ where_ (is_over 150 clean_rate) (BadValue CleanRate)
+      ∷ where_ (nat_le 512 (length w.books.tables.mappings)) (Limit 512)
+      ∷ where_ (nat_le 256 (count_by (λ (m : Mapping). m.source.0 == s.id.0) w.books.tables.mappings)) (Limit 256)
+      ∷ of_asked (of_group w.books) group (λ g. where_ (nat_le 64 (length (members w.books.tables g.id))) (Limit 64))
+      ∷ of_asked (of_group w.books) group (group_busy w.books)
+      ∷ name_taken w.books Fcmap (mapping_name name w.books.next_mapping)
+      ∷ []
+
   pub can_make : Option GrainSize → Contains w.books.tables.volumes s → Contains w.books.tables.volumes t → (grain_size : Option GrainSize) →
-      first_of
-      (where_ (s.id.0 == t.id.0) SameVolume
-      ∷ where_ (not (s.grains == t.grains)) (SizeDiffers s.grains t.grains)
-      ∷ grain_differs grain grain_size
-      ∷ pair_taken w.books s t
-      ∷ of_asked (of_group w.books) group (λ g. None)
-      ∷ where_ (is_over 150 copy_rate) (BadValue CopyRate)
-      ∷ where_ (is_over 150 clean_rate) (BadValue CleanRate)
-      ∷ where_ (nat_le 512 (length w.books.tables.mappings)) (Limit 512)
-      ∷ where_ (nat_le 256 (count_by (λ (m : Mapping). m.source.0 == s.id.0) w.books.tables.mappings)) (Limit 256)
-      ∷ of_asked (of_group w.books) group (λ g. where_ (nat_le 64 (length (members w.books.tables g.id))) (Limit 64))
-      ∷ of_asked (of_group w.books) group (group_busy w.books)
-      ∷ name_taken w.books Fcmap (mapping_name name w.books.next_mapping)
-      ∷ []) ≡ None → CanMake
+      first_of (refusals grain_size) ≡ None → CanMake
   can_make size source target grain_size e =
-      let none = none_of
-      (where_ (s.id.0 == t.id.0) SameVolume
-      ∷ where_ (not (s.grains == t.grains)) (SizeDiffers s.grains t.grains)
-      ∷ grain_differs grain grain_size
-      ∷ pair_taken w.books s t
-      ∷ of_asked (of_group w.books) group (λ g. None)
-      ∷ where_ (is_over 150 copy_rate) (BadValue CopyRate)
-      ∷ where_ (is_over 150 clean_rate) (BadValue CleanRate)
-      ∷ where_ (nat_le 512 (length w.books.tables.mappings)) (Limit 512)
-      ∷ where_ (nat_le 256 (count_by (λ (m : Mapping). m.source.0 == s.id.0) w.books.tables.mappings)) (Limit 256)
-      ∷ of_asked (of_group w.books) group (λ g. where_ (nat_le 64 (length (members w.books.tables g.id))) (Limit 64))
-      ∷ of_asked (of_group w.books) group (group_busy w.books)
-      ∷ name_taken w.books Fcmap (mapping_name name w.books.next_mapping)
-      ∷ []) e in
+      let none = none_of (refusals grain_size) e in
       record {
         source = source;
         target = target;

@@ -10,10 +10,11 @@ use Rattle.fc_books.specs.Books.{Books, Deed, nothing, all_deeds}
 use Rattle.fc_books.specs.Sound.{Agree}
 use Rattle.fc_books.specs.Starting.{prepare, begins}
 use Rattle.fc_entry.specs.Picture.{Picture}
+use Rattle.fc_legal.proofs.Each.{each_append}
 use Rattle.fc_legal.specs.Stands.{ArePlain, AreFew, Stands}
 use Rattle.fc_legal.specs.Whole.{Whole}
 use Rattle.fc_sheets.proofs.Finding.{mapping_place_at}
-use Rattle.fc_decided.proofs.Copying.{AreQuiet, quiet_effects, quiet_append}
+use Rattle.fc_decided.proofs.Copying.{IsQuiet, AreQuiet, quiet_effects}
 use Rattle.fc_decided.proofs.Sparing.{sparing, still_sparing}
 use Rattle.fc_decided.proofs.Frame.{Suits, SuitsAs, suits_as}
 use Rattle.fc_decided.proofs.Reaching.{volumes_through}
@@ -90,6 +91,6 @@ module _ (grain : GrainSize) (decisions : ℕ) (w : Whole) (maps : List Mapping)
   unfolding prepared_deed
   prepare_suits =
       let effects = (prepare restore w.books.tables maps).effects in
-      let quiet : AreQuiet effects = quiet_append (giving true w.books.tables maps).effects (all_deeds (begins Prepared restore) maps).effects (give_effects true w.books.tables maps) (begin_effects Prepared restore maps) in
+      let quiet : AreQuiet effects = each_append IsQuiet (giving true w.books.tables maps).effects (all_deeds (begins Prepared restore) maps).effects (give_effects true w.books.tables maps) (begin_effects Prepared restore maps) in
       subst (Suits grain decisions w) (sym written_out)
       (suits_as grain decisions w (prepared_deed effects) now_books (tabled_sets w.books now_new) (prepared_suits effects quiet))

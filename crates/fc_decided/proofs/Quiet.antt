@@ -17,6 +17,7 @@ use Rattle.fc_books.specs.Copies.{is_whole, kept}
 use Rattle.fc_books.specs.Ending.{in_state, ends_in, comes_to, goes_from, as_left, cut_of}
 use Rattle.fc_books.specs.Stopping.{stops_with}
 use Rattle.fc_entry.specs.Picture.{Picture}
+use Rattle.fc_legal.proofs.Each.{Each, each_append}
 use Rattle.fc_decided.proofs.Apart.{fold_append, sheet_through, picture_through}
 use Rattle.fc_decided.proofs.Frame.{tabled}
 use Rattle.fc_decided.proofs.Lists.{first_in, later_in, in_cases, none_in}
@@ -49,12 +50,7 @@ IsQuiet s (Access volume access) = Unit {0}
 IsQuiet s event = ⊥
 
 abbrev pub AreQuiet : Sheet → List LaneEvent → Type 0
-AreQuiet s [] = Unit {0}
-AreQuiet s (e ∷ es) = IsQuiet s e × AreQuiet s es
-
-pub quiet_append : (s : Sheet) (es fs : List LaneEvent) → AreQuiet s es → AreQuiet s fs → AreQuiet s (es ++ fs)
-quiet_append s [] fs first second = second
-quiet_append s (e ∷ es) fs first second = (first.0, quiet_append s es fs first.1 second)
+AreQuiet s es = Each (IsQuiet s) es
 
 -- What quiet events leave.
 pub record Quietly (s : Sheet) (es : List LaneEvent) : Type 0 where
@@ -88,7 +84,7 @@ pub ends_then : (b : Books) (s : Sheet) (first second : Deed) (mid last : ℕ �
 ends_then b s first second mid last one two =
     record {
       table = table_then b first.events second.events first.changes second.changes one.table two.table;
-      quiet = quiet_append s first.events second.events one.quiet two.quiet;
+      quiet = each_append (IsQuiet s) first.events second.events one.quiet two.quiet;
       stands = subst (λ (x : Books). Standing x s.slots last) (sym (fold_append after_table_change b first.changes second.changes)) two.stands;
     }
 

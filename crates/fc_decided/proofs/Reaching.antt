@@ -1,5 +1,5 @@
 -- How hosts reach volumes: by the one mapping that isn't idle, and as lanes are told.
-use Rattle.std.proofs.Common.{◌≡◌, Bool, true, false, cond, not, ◌&&◌, List, [], ◌∷◌, ◌++◌, map, fold, Some, refl, sym, ap, ◌∙◌, Contains, inl, inr}
+use Rattle.std.proofs.Common.{◌≡◌, Bool, true, false, cond, not, ◌&&◌, List, [], ◌∷◌, map, fold, Some, refl, sym, ap, ◌∙◌, Contains, inl, inr}
 use Rattle.std.specs.Prelude.{◌==◌, find}
 use Rattle.std.proofs.lemmas.Bool.{cases_Bool, eqb-true, eq-eqb, and_parts, and_from, both_ways}
 use Rattle.fc_base.specs.States.{access_of}
@@ -12,6 +12,7 @@ use Rattle.fc_base.specs.declared.state.Access.TheVariants.{Online}
 use Rattle.fc_base.specs.declared.volume.Mapping.{Mapping}
 use Rattle.fc_base.specs.declared.volume.Volume.{Volume}
 use Rattle.fc_books.specs.Accesses.{is_idle, deciding, access_by, access_in}
+use Rattle.fc_legal.proofs.Each.{Each}
 use Rattle.fc_legal.specs.Whole.{volume_told, volumes_told}
 use Rattle.fc_rules.specs.LaneTold.{LaneVolume, volumes_event}
 use Rattle.fc_decided.proofs.Lists.{first_in, later_in, find_none, find_one, map_alike}
@@ -96,8 +97,7 @@ IsWithin (Remove volume) = ⊥
 IsWithin event = Unit {0}
 
 abbrev pub AreWithin : List LaneEvent → Type 0
-AreWithin [] = Unit {0}
-AreWithin (e ∷ es) = IsWithin e × AreWithin es
+AreWithin es = Each IsWithin es
 
 set_access : (access : VolId → Access) (volume : VolId) (now : Access) (vs : List Volume) →
     volumes_event (map (told_with access) vs) (SetAccess volume now) ≡ map (told_with (λ id. reached id (access id) (SetAccess volume now))) vs
@@ -127,7 +127,3 @@ volumes_through t u es within same each =
     events_told (access_in t) t.volumes es within
     ∙ map_alike (told_with (λ id. fold (reached id) (access_in t id) es)) (volume_told u) t.volumes (λ v found. ap (λ (a : Access). record { volume = v.id; kind = v.kind; access = a }) (each v found))
     ∙ ap (map (volume_told u)) (sym same)
-
-pub within_append : (es fs : List LaneEvent) → AreWithin es → AreWithin fs → AreWithin (es ++ fs)
-within_append [] fs first second = second
-within_append (e ∷ es) fs first second = (first.0, within_append es fs first.1 second)

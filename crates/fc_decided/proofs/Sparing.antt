@@ -9,6 +9,7 @@ use Rattle.fc_base.specs.declared.request.Pair.{Pair}
 use Rattle.fc_base.specs.declared.volume.Mapping.{Mapping}
 use Rattle.fc_books.specs.Starting.{pair_of}
 use Rattle.fc_follow.specs.Following.{IsNoTrigger, TriggersFirst}
+use Rattle.fc_legal.proofs.Each.{Each, each_append}
 
 -- It triggers nothing, and no mapping of the table names a volume that goes.
 abbrev pub Spares : Tables → LaneEvent → Type 0
@@ -17,12 +18,7 @@ Spares t (Remove volume) = (m : Mapping) → Contains t.mappings m → (m.source
 Spares t event = Unit {0}
 
 abbrev pub AreSparing : Tables → List LaneEvent → Type 0
-AreSparing t [] = Unit {0}
-AreSparing t (e ∷ es) = Spares t e × AreSparing t es
-
-pub sparing_append : (t : Tables) (es fs : List LaneEvent) → AreSparing t es → AreSparing t fs → AreSparing t (es ++ fs)
-sparing_append t [] fs first second = second
-sparing_append t (e ∷ es) fs first second = (first.0, sparing_append t es fs first.1 second)
+AreSparing t es = Each (Spares t) es
 
 -- ---- still
 
@@ -33,12 +29,7 @@ IsStill (Work m copies cleans) = Unit {0}
 IsStill event = ⊥
 
 abbrev pub AreStill : List LaneEvent → Type 0
-AreStill [] = Unit {0}
-AreStill (e ∷ es) = IsStill e × AreStill es
-
-pub still_append : (es fs : List LaneEvent) → AreStill es → AreStill fs → AreStill (es ++ fs)
-still_append [] fs first second = second
-still_append (e ∷ es) fs first second = (first.0, still_append es fs first.1 second)
+AreStill es = Each IsStill es
 
 still_spares : (t : Tables) (e : LaneEvent) → IsStill e → Spares t e
 still_spares t (Access volume access) still = tt
@@ -60,8 +51,8 @@ pub data Begins (t : Tables) : List LaneEvent → Type 0 where
   starting : {pairs : List Pair} → {rest : List LaneEvent} → ArePairs t pairs → AreStill rest → Begins t (Trigger pairs ∷ rest)
 
 pub begins_still : (t : Tables) (es fs : List LaneEvent) → Begins t es → AreStill fs → Begins t (es ++ fs)
-begins_still t es fs (sparing all) last = sparing (sparing_append t es fs all (still_sparing t fs last))
-begins_still t es fs (starting {pairs} {rest} are still) last = starting are (still_append rest fs still last)
+begins_still t es fs (sparing all) last = sparing (each_append (Spares t) es fs all (still_sparing t fs last))
+begins_still t es fs (starting {pairs} {rest} are still) last = starting are (each_append IsStill rest fs still last)
 
 -- ---- no trigger comes later
 

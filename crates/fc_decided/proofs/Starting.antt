@@ -20,11 +20,12 @@ use Rattle.fc_entry.specs.Picture.{Picture}
 use Rattle.fc_entry.specs.PlainStep.{after_trigger, after_effects}
 use Rattle.fc_legal.specs.Stands.{ArePlain, AreFew, Stands}
 use Rattle.fc_legal.specs.Whole.{Whole}
-use Rattle.fc_decided.proofs.Copying.{effects_append, quiet_effects, AsLarge, plain_size, plain_triggered}
+use Rattle.fc_decided.proofs.Copying.{quiet_effects, AsLarge, plain_size, plain_triggered}
 use Rattle.fc_decided.proofs.Sparing.{starting}
 use Rattle.fc_decided.proofs.Frame.{Suits, SuitsAs, suits_as, few_births}
 use Rattle.fc_decided.proofs.Lists.{map_from}
 use Rattle.fc_decided.proofs.Ordered.{one_of_id}
+use Rattle.fc_decided.proofs.Plain.{effects_append}
 use Rattle.fc_decided.proofs.Reaching.{volumes_through}
 use Rattle.fc_decided.proofs.Receiving.{told_accesses, accesses_within, accesses_are, turned_agree, then_books, fresh}
 use Rattle.fc_decided.proofs.Setting.{sets_keep, sets, set_in, tables_set, tabled_sets, fit_sets}

@@ -8,6 +8,7 @@ use Rattle.fc_base.specs.declared.volume.Mapping.{Mapping}
 use Rattle.fc_base.specs.Pools.{Pool}
 use Rattle.fc_books.specs.After.{after_table_change}
 use Rattle.fc_books.specs.Books.{Books}
+use Rattle.fc_legal.proofs.Each.{Each, each_append}
 use Rattle.fc_legal.specs.Lawful.{HaveDisks, FitChanges}
 use Rattle.fc_legal.specs.Whole.{volumes_told}
 use Rattle.fc_rules.specs.LaneTold.{LaneVolume, volumes_event}
@@ -16,7 +17,7 @@ use Rattle.fc_decided.proofs.Frame.{tabled, tables_through}
 use Rattle.fc_decided.proofs.Keeping.{Stay, stay_all, stay_then}
 use Rattle.fc_decided.proofs.Setting.{fit_append}
 use Rattle.fc_decided.proofs.Sparing.{Spares, AreSparing}
-use Rattle.fc_decided.proofs.Working.{NoWork, IsGone, AreGone, gone_append}
+use Rattle.fc_decided.proofs.Working.{NoWork, IsGone, AreGone}
 
 -- ---- events that are about no whole volume and no work, and trigger nothing
 
@@ -28,12 +29,7 @@ IsCalm (Work m copies cleans) = ⊥
 IsCalm event = Unit {0}
 
 abbrev pub AreCalm : List LaneEvent → Type 0
-AreCalm [] = Unit {0}
-AreCalm (e ∷ es) = IsCalm e × AreCalm es
-
-pub calm_append : (es fs : List LaneEvent) → AreCalm es → AreCalm fs → AreCalm (es ++ fs)
-calm_append [] fs first second = second
-calm_append (e ∷ es) fs first second = (first.0, calm_append es fs first.1 second)
+AreCalm es = Each IsCalm es
 
 pub calm_disks : (pools : List Pool) (volumes : List LaneVolume) (es : List LaneEvent) → AreCalm es → HaveDisks pools volumes es
 calm_disks pools volumes [] calm = tt
@@ -117,9 +113,9 @@ then_by b es fs cs ds all e f first second =
     let few' : length (tabled b cs).tables.mappings ≤ length b.tables.mappings = first.fewer in
     let few'' : length (tabled b (cs ++ ds)).tables.mappings ≡ length (tabled (tabled b cs) ds).tables.mappings = ap (λ (x : Books). length x.tables.mappings) (sym same) in
     record {
-      calm = calm_append es fs first.calm second.calm;
+      calm = each_append IsCalm es fs first.calm second.calm;
       gone = subst (λ (x : Books). AreGone x.tables.mappings (es ++ fs)) same
-          (gone_append (tabled (tabled b cs) ds).tables.mappings es fs
+          (each_append (IsGone (tabled (tabled b cs) ds).tables.mappings) es fs
           (all_still_gone (tabled b cs).tables.mappings (tabled (tabled b cs) ds).tables.mappings es second.ids first.gone)
           second.gone);
       ids = λ m found.

@@ -13,6 +13,7 @@ use Rattle.fc_books.specs.After.{flags_after, pools_after}
 use Rattle.fc_books.specs.Books.{Books}
 use Rattle.fc_books.specs.Work.{copies, cleans, changes_work, work_events}
 use Rattle.fc_entry.specs.Picture.{Picture}
+use Rattle.fc_legal.proofs.Each.{Each}
 use Rattle.fc_legal.specs.Lawful.{HaveDisks}
 use Rattle.fc_pick.specs.Flags.{AreByMapping, is_flagged, before, behind, with_flags, without_flags}
 use Rattle.fc_pick.specs.declared.work.WorkFlags.{WorkFlags}
@@ -84,8 +85,7 @@ noted_after n rows (Forget m) lt noted = noted_without n m rows noted
 noted_after n rows e lt noted = noted
 
 abbrev pub AllWorkBelow : ℕ → List LaneEvent → Type 0
-AllWorkBelow n [] = Unit {0}
-AllWorkBelow n (e ∷ es) = WorkBelow n e × AllWorkBelow n es
+AllWorkBelow n es = Each (WorkBelow n) es
 
 pub noted_through : (n : ℕ) (rows : List WorkFlags) (es : List LaneEvent) → AllWorkBelow n es → AreNoted n rows → AreNoted n (fold flags_after rows es)
 noted_through n rows [] lt noted = noted
@@ -98,8 +98,7 @@ IsNoWork (Work m copies cleans) = ⊥
 IsNoWork event = Unit {0}
 
 abbrev pub NoWork : List LaneEvent → Type 0
-NoWork [] = Unit {0}
-NoWork (e ∷ es) = IsNoWork e × NoWork es
+NoWork es = Each IsNoWork es
 
 no_work_below : (n : ℕ) (e : LaneEvent) → IsNoWork e → WorkBelow n e
 no_work_below n (Work m copies cleans) none = absurd none
@@ -109,10 +108,6 @@ pub none_below : (n : ℕ) (es : List LaneEvent) → NoWork es → AllWorkBelow 
 none_below n [] none = tt
 none_below n (e ∷ es) none = (no_work_below n e none.0, none_below n es none.1)
 
-pub no_work_append : (es fs : List LaneEvent) → NoWork es → NoWork fs → NoWork (es ++ fs)
-no_work_append [] fs first second = second
-no_work_append (e ∷ es) fs first second = (first.0, no_work_append es fs first.1 second)
-
 -- ---- what goes is no more in the table
 
 abbrev pub IsGone : List Mapping → LaneEvent → Type 0
@@ -120,12 +115,7 @@ IsGone maps (Forget m) = (n : Mapping) → Contains maps n → n.id.0 ≢ m.0
 IsGone maps event = Unit {0}
 
 abbrev pub AreGone : List Mapping → List LaneEvent → Type 0
-AreGone maps [] = Unit {0}
-AreGone maps (e ∷ es) = IsGone maps e × AreGone maps es
-
-pub gone_append : (maps : List Mapping) (es fs : List LaneEvent) → AreGone maps es → AreGone maps fs → AreGone maps (es ++ fs)
-gone_append maps [] fs first second = second
-gone_append maps (e ∷ es) fs first second = (first.0, gone_append maps es fs first.1 second)
+AreGone maps es = Each (IsGone maps) es
 
 -- ---- events of work alone
 

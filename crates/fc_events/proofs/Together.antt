@@ -194,9 +194,21 @@ module _ (slots : List Slot) (k : ℕ) (kl : k < length slots) (fresh : (j : ℕ
 
 -- ---- the events
 
+-- what holds of a sheet holds after what was done at a place of it, if there is one
+at_place_kept : (P : Sheet → Type 0) (f : ℕ → Sheet → Sheet) (s : Sheet) (o : Option ℕ) → ((k : ℕ) → o ≡ Some k → P (f k s)) → P s → P (at_place f o s)
+at_place_kept P f s None h t = t
+at_place_kept P f s (Some k) h t = h k refl
+
+-- and after a pair of a trigger, if a target's leave and its being put keep it
+start_kept : (P : Sheet → Type 0) (s : Sheet) (p : Pair) → ((k : ℕ) → k < length s.slots → P s → P (left_place k s)) →
+    ((held : List Bool) (k : ℕ) (u : Sheet) → k < length u.slots → P u → P (placed p.target.0 p.map.0 held k u)) → P s → P (started_empty s p)
+start_kept P s p leaves puts t =
+    let u : Sheet = at_place left_place (live_place s.slots p.target.0) s in
+    let a : P u = at_place_kept P left_place s (live_place s.slots p.target.0) (λ k e. leaves k (live_place_at s.slots p.target.0 k e).there t) t in
+    at_place_kept P (placed p.target.0 p.map.0 _) u (live_place u.slots p.source.0) (λ k e. puts _ k u (live_place_at u.slots p.source.0 k e).there a) a
+
 place_together : (f : ℕ → Sheet → Sheet) (s : Sheet) (o : Option ℕ) → ((k : ℕ) → o ≡ Some k → SheetTogether (f k s)) → SheetTogether s → SheetTogether (at_place f o s)
-place_together f s None h t = t
-place_together f s (Some k) h t = h k refl
+place_together = at_place_kept SheetTogether
 
 left_together : (k : ℕ) (s : Sheet) → k < length s.slots → SheetTogether s → SheetTogether (left_place k s)
 left_together k s lt t =
@@ -206,10 +218,7 @@ left_together k s lt t =
     ]
 
 start_together : (s : Sheet) (p : Pair) → SheetTogether s → SheetTogether (started_empty s p)
-start_together s p t =
-    let u : Sheet = at_place left_place (live_place s.slots p.target.0) s in
-    let a : SheetTogether u = place_together left_place s (live_place s.slots p.target.0) (λ k e. left_together k s (live_place_at s.slots p.target.0 k e).there t) t in
-    place_together (placed p.target.0 p.map.0 _) u (live_place u.slots p.source.0) (λ k e. placed_together p.target.0 p.map.0 _ k u (live_place_at u.slots p.source.0 k e).there a) a
+start_together s p = start_kept SheetTogether s p (λ k. left_together k s) (placed_together p.target.0 p.map.0)
 
 forced_together : (k : ℕ) (s : Sheet) → k < length s.slots → SheetTogether s → SheetTogether (forced_at k s)
 forced_together k s lt t =
@@ -229,10 +238,6 @@ abbrev Spread : Sheet → Type 0
 Spread s = IsContiguous s.slots
 
 -- a trigger leaves them together, whatever the labels are
-place_spread : (f : ℕ → Sheet → Sheet) (s : Sheet) (o : Option ℕ) → ((k : ℕ) → o ≡ Some k → Spread (f k s)) → Spread s → Spread (at_place f o s)
-place_spread f s None h c = c
-place_spread f s (Some k) h c = h k refl
-
 left_spread : (k : ℕ) (s : Sheet) → k < length s.slots → Spread s → Spread (left_place k s)
 left_spread k s lt c =
     elim (cases_Bool (has_after s.slots k)) [
@@ -243,10 +248,8 @@ left_spread k s lt c =
     ]
 
 started_spread : (s : Sheet) (p : Pair) → Spread s → Spread (started_empty s p)
-started_spread s p c =
-    let u : Sheet = at_place left_place (live_place s.slots p.target.0) s in
-    let a : Spread u = place_spread left_place s (live_place s.slots p.target.0) (λ k e. left_spread k s (live_place_at s.slots p.target.0 k e).there c) c in
-    place_spread (placed p.target.0 p.map.0 _) u (live_place u.slots p.source.0) (λ k e. contiguous_after _ u.slots (placed_follows p.target.0 p.map.0 _ k u (live_place_at u.slots p.source.0 k e).there) a) a
+started_spread s p =
+    start_kept Spread s p (λ k. left_spread k s) (λ held k u there. contiguous_after (placed p.target.0 p.map.0 held k u).slots u.slots (placed_follows p.target.0 p.map.0 held k u there))
 
 pub triggered_together : (pairs : List Pair) (s : Sheet) → IsContiguous s.slots → IsContiguous (fold started_empty s pairs).slots
 triggered_together [] s c = c

@@ -51,16 +51,16 @@ turned_there f v entries old now i l lt t =
     let b : length now ≡ length old = t.size in
     omega arith
 
-pub turned_more : (f : Slot → Slot) (v : ℕ) (entries : List Entry) (old now : List Slot) (i : ℕ) (t u : Slot) → ListsVolume old v entries → i < length entries → t ≡ get_or now (entry_at entries i).place t → u ≡ f t →
+pub turned_more : {f : Slot → Slot} {v : ℕ} {entries : List Entry} {old now : List Slot} {i : ℕ} {t u : Slot} → ListsVolume old v entries → i < length entries → t ≡ get_or now (entry_at entries i).place t → u ≡ f (get_or now (entry_at entries i).place t) →
     AreTurned f entries old i now → AreTurned f entries old (i + 1) (set now (entry_at entries i).place u)
-turned_more f v entries old now i t u l lt r q a =
+turned_more {f} {v} {entries} {old} {now} {i} {t} {u} l lt r q a =
     let p : ℕ = (entry_at entries i).place in
     let pn : p < length now = turned_there f v entries old now i l lt a in
     let was : slot_at now p ≡ slot_at old p = done_next old v entries (slot_at old) (λ k. f (slot_at old k)) (slot_at now) (length old) i p l lt refl (l.there i lt) a.turned in
     record {
       size = length-set now p u ∙ a.size;
       turned = done_more old v entries (slot_at old) (λ k. f (slot_at old k)) (slot_at now) (slot_at (set now p u)) (length old) i p l lt refl
-          (get_or-set_same now p u no_slot pn ∙ (q ∙ ap f (sym (read_at now p t pn r) ∙ was)))
+          (get_or-set_same now p u no_slot pn ∙ (q ∙ ap f (sym r ∙ (sym (read_at now p t pn r) ∙ was))))
           (λ k ne. get_or-set_other now p k u no_slot ne) a.turned;
     }
 
@@ -86,11 +86,11 @@ kept_off v g t ne = rw (and_right t.is_live _ (ne_eqb t.volume v ne)) refl
 lost_off : (v g : ℕ) (t : Slot) → t.volume ≢ v → grain_lost v g t ≡ t
 lost_off v g t ne = rw (and_right (not t.is_live) _ (ne_eqb t.volume v ne)) refl
 
-pub all_taken : (v g : ℕ) (entries : List Entry) (old now : List Slot) (i : ℕ) → ListsVolume old v entries → length entries ≤ i → AreTurned (grain_taken v g) entries old i now → now ≡ map (grain_taken v g) old
-all_taken v g entries old now i = turned_all (grain_taken v g) v entries old now i (bit_taken v g).none (taken_off v g)
+pub all_taken : (v g : ℕ) {entries : List Entry} {old now : List Slot} {i : ℕ} → ListsVolume old v entries → length entries ≤ i → AreTurned (grain_taken v g) entries old i now → now ≡ map (grain_taken v g) old
+all_taken v g {entries} {old} {now} {i} = turned_all (grain_taken v g) v entries old now i (bit_taken v g).none (taken_off v g)
 
-pub all_kept : (v g : ℕ) (entries : List Entry) (old now : List Slot) (i : ℕ) → ListsVolume old v entries → length entries ≤ i → AreTurned (grain_kept v g) entries old i now → now ≡ map (grain_kept v g) old
-all_kept v g entries old now i = turned_all (grain_kept v g) v entries old now i (bit_kept v g).none (kept_off v g)
+pub all_kept : (v g : ℕ) {entries : List Entry} {old now : List Slot} {i : ℕ} → ListsVolume old v entries → length entries ≤ i → AreTurned (grain_kept v g) entries old i now → now ≡ map (grain_kept v g) old
+all_kept v g {entries} {old} {now} {i} = turned_all (grain_kept v g) v entries old now i (bit_kept v g).none (kept_off v g)
 
-pub all_lost : (v g : ℕ) (entries : List Entry) (old now : List Slot) (i : ℕ) → ListsVolume old v entries → length entries ≤ i → AreTurned (grain_lost v g) entries old i now → now ≡ map (grain_lost v g) old
-all_lost v g entries old now i = turned_all (grain_lost v g) v entries old now i (bit_lost v g).none (lost_off v g)
+pub all_lost : (v g : ℕ) {entries : List Entry} {old now : List Slot} {i : ℕ} → ListsVolume old v entries → length entries ≤ i → AreTurned (grain_lost v g) entries old i now → now ≡ map (grain_lost v g) old
+all_lost v g {entries} {old} {now} {i} = turned_all (grain_lost v g) v entries old now i (bit_lost v g).none (lost_off v g)

@@ -1,5 +1,5 @@
 -- A copy or a cleaning of a grain in a lane.
-use Rattle.std.proofs.Common.{◌≡◌, ℕ, ◌<◌, ◌≤◌, ◌/◌, ◌%◌, ◌^◌, false, Option, None, List, [], length, map, reverse, sym, ap, subst, ◌∙◌, arith}
+use Rattle.std.proofs.Common.{◌≡◌, ℕ, ◌<◌, ◌≤◌, ◌/◌, ◌%◌, false, Option, None, List, [], length, map, reverse, sym, ap, subst, ◌∙◌, arith}
 use Rattle.std.proofs.lemmas.List.{length-map, length-reverse}
 use Rattle.fc_base.specs.Column.{Column}
 use Rattle.fc_base.specs.Moves.{fill_moves, list_all_with_asked, list_with_asked}
@@ -14,7 +14,7 @@ use Rattle.fc_lane.specs.Lane.{LaneView, IsLaneOf, IsReady, of}
 use Rattle.fc_steps.specs.StepsEnd.{CanMakeMoves, StepsEnd, StepsStand, torn_in}
 use Rattle.fc_steps.specs.declared.stop.Stop.{Stop}
 use Rattle.fc_lane.proofs.Entering.{stands_at}
-use Rattle.fc_lane.proofs.Room.{count_told, few_moves, moves_fit, some_room}
+use Rattle.fc_lane.proofs.Room.{HasRoom, count_told, room_for, some_room}
 use Rattle.fc_moves.proofs.Filling.{filled}
 use Rattle.fc_moves.proofs.Listing.{reached_root}
 use Rattle.fc_moves.proofs.Members.{not_in_nil}
@@ -82,14 +82,8 @@ module _ (v : LaneView) (slot number place : ℕ) (w : CanFillHere v slot number
         let same = count_told v told stands in
         omega arith
 
-    pub fill_few : length plan < 2 ^ 30
-    fill_few = few_moves v w.ready (length plan) plan_short
-
-    pub fill_fits : length plan ≤ v.entry_room
-    fill_fits = moves_fit v w.ready (length plan) plan_short
-
-    pub fill_held : length plan ≤ v.plan_room
-    fill_held = let room = w.ready.plan in let short = plan_short in omega arith
+    pub fill_room : HasRoom v (length plan)
+    fill_room = room_for v w.ready (length plan) plan_short
 
     pub fill_some : 0 < v.entry_room
     fill_some = some_room v w.ready told k stands fill.live.there fill.live.is_live

@@ -1,12 +1,14 @@
 -- Entries of a lane, step by step.
-use Rattle.std.proofs.Common.{◌≡◌, ℕ, ◌≤◌, ◌<◌, ◌/◌, ◌^◌, Option, Some, None, IsSome, List, length, take, refl, sym, ap, subst, ◌∙◌}
+use Rattle.std.proofs.Common.{◌≡◌, ℕ, ◌≤◌, ◌<◌, ◌/◌, ◌^◌, Option, Some, None, IsSome, List, [], length, map, take, refl, sym, ap, subst, ◌∙◌}
 use Rattle.fc_base.specs.MovePlan.{PlannedMoves}
+use Rattle.fc_base.specs.Moves.{fill_moves}
 use Rattle.fc_base.specs.declared.ids.GrainNo.{GrainNo}
 use Rattle.fc_base.specs.declared.ids.MapId.{MapId}
 use Rattle.fc_base.specs.declared.ids.SlotId.{SlotId}
 use Rattle.fc_base.specs.declared.request.Move.{Move}
 use Rattle.fc_base.specs.declared.request.Pick.TheVariants.{Any}
 use Rattle.fc_base.specs.declared.request.Planned.TheVariants.{Fill, Write as PlannedWrite}
+use Rattle.fc_base.specs.declared.request.Reply.{Reply}
 use Rattle.fc_base.specs.declared.request.Reply.TheVariants.{Done}
 use Rattle.fc_base.specs.declared.request.Request.{Request}
 use Rattle.fc_base.specs.declared.request.Request.TheVariants.{Write as Writes}
@@ -15,24 +17,31 @@ use Rattle.fc_chain.specs.Chains.{Chains}
 use Rattle.fc_chain.specs.Planning.{planned_moves}
 use Rattle.fc_entry.specs.Picture.{grain_of_block}
 use Rattle.fc_entry.specs.declared.entry.Entry.{Entry}
+use Rattle.fc_follow.specs.Following.{Followed}
 use Rattle.fc_grains.specs.Grains.{GrainsState}
-use Rattle.fc_lane.specs.Doing.{CanWrite, FitsAsk, HasBegun, IsNextWork, IsUnderWay}
+use Rattle.fc_lane.specs.Doing.{CanWrite, FitsAsk, HasBegun, HasBegunAs, IsNextWork, IsUnderWay}
 use Rattle.fc_lane.specs.Entering.{HasEntered, SameBeside}
-use Rattle.fc_lane.specs.Lane.{LaneView, IsLaneOf, IsReady, of}
+use Rattle.fc_lane.specs.Lane.{LaneView, IsFollowing, IsLaneOf, IsReady, of}
 use Rattle.fc_lane.specs.Turns.{CanPick}
 use Rattle.fc_lane.specs.Workers.{IsFilled, ask_of, filled_slot, turn_of}
+use Rattle.fc_lane.specs.declared.doing.Begun.TheVariants.{Answered}
 use Rattle.fc_lane.specs.declared.doing.Doing.{Doing}
 use Rattle.fc_lane.specs.declared.worker.Worker.{Worker}
 use Rattle.fc_lane.specs.declared.worker.Worker.TheVariants.{Copier, Cleaner}
 use Rattle.fc_lane.proofs.FillEntry.{fill_entered}
-use Rattle.fc_lane.proofs.FillLane.{CanFillHere, fill_few, fill_held, plan_of, runs}
+use Rattle.fc_lane.proofs.FillLane.{CanFillHere, fill_room, plan_of, runs}
+use Rattle.fc_lane.proofs.Followed.{untouched_followed}
+use Rattle.fc_lane.proofs.Room.{HasRoom}
 use Rattle.fc_lane.proofs.Turns.{turned, work_turned}
 use Rattle.fc_lane.proofs.Workers.{turn_writes_none}
 use Rattle.fc_lane.proofs.WriteEntry.{fits_write}
-use Rattle.fc_lane.proofs.WriteLane.{IsWritable, plan_few, plan_held, planned, write_done}
+use Rattle.fc_lane.proofs.WriteLane.{IsWritable, planned, write_done, write_room}
 use Rattle.fc_rules.specs.LaneRight.{done_write}
 use Rattle.fc_rules.specs.LaneTold.{LaneOf, LaneTold, place_of}
+use Rattle.fc_rules.specs.LaneTurn.{spot_at}
+use Rattle.fc_rules.specs.Spot.{move_in}
 use Rattle.fc_steps.specs.Asking.{done_of, request_of, steps_entry}
+use Rattle.fc_steps.specs.StepsEnd.{CanMakeMoves}
 use Rattle.fc_steps.specs.UnderWay.{AreAsked, AreUnderWay, CanOwn, IsCounted, after_step, first_steps, next_of, slot_asked}
 use Rattle.fc_steps.specs.declared.ask.Ask.{Ask}
 use Rattle.fc_steps.specs.declared.ask.Ask.TheVariants.{Write, Copy, Clean}
@@ -52,10 +61,10 @@ pub record AskedAt (v : LaneView) (told : LaneTold) (ask : Ask) (grain : GrainNo
   pub slot_is : slot_asked (of v) told ask ≡ Some slot
   pub asked : AreAsked (of v) told slot ask grain.0 (grain.0 / v.lanes) moves v.chains v.grains
 
-begins : (v new : LaneView) (ask : Ask) (grain : GrainNo) (plan : PlannedMoves) (number actor : ℕ) (doing : Doing) → length plan.moves < 2 ^ 30 → length plan.moves ≤ v.plan_room → CanWrite v ask →
+begins : (v new : LaneView) (ask : Ask) (grain : GrainNo) (plan : PlannedMoves) (number actor : ℕ) (doing : Doing) → HasRoom v (length plan.moves) → CanWrite v ask →
     (told : LaneTold) × IsLaneOf v told × FitsAsk (of v) ask told → ((told : LaneTold) → IsLaneOf v told → FitsAsk (of v) ask told → AskedAt v told ask grain plan.moves) →
     doing ≡ record { number = number; actor = actor; before = v.grains.faults; steps = first_steps ask grain (grain.0 / v.lanes) plan } → new ≡ record v { entry_room = new.entry_room } → HasBegun v number actor ask doing new
-begins v new ask grain plan number actor doing few held can_write can asked is same =
+begins v new ask grain plan number actor doing room can_write can asked is same =
     let now : LaneView = record v { entry_room = new.entry_room } in
     subst (λ (z : LaneView). HasBegun v number actor ask doing z) (sym same)
     (subst (λ (d : Doing). HasBegun v number actor ask d now) (sym is) (record {
@@ -63,8 +72,8 @@ begins v new ask grain plan number actor doing few held can_write can asked is s
         beside = record { lane = refl; lanes = refl; volumes = refl; flags = refl; changes = refl };
         plan_room = refl;
         before = refl;
-        counted = counted_first ask grain (grain.0 / v.lanes) plan few;
-        room = held;
+        counted = counted_first ask grain (grain.0 / v.lanes) plan room.few;
+        room = room.planned;
         can_write = can_write;
         can = can;
         came = λ told s fits.
@@ -87,7 +96,7 @@ pub write_begins : (v new : LaneView) (part : WritePart) (grain : GrainNo) (numb
     Begins v (Write part) grain (planned_moves v.chains.sheet.slots v.chains.lanes (PlannedWrite part.volume grain)) number actor doing new → HasBegun v number actor (Write part) doing new
 write_begins v new part grain number actor doing w below b =
     let moves : List Move = planned_moves v.chains.sheet.slots v.chains.lanes (PlannedWrite part.volume grain) in
-    begins v new (Write part) grain (record { moves = moves; room = doing.steps.planned.room }) number actor doing (plan_few v part grain.0 (grain.0 / v.lanes) w moves refl) (plan_held v part grain.0 (grain.0 / v.lanes) w moves refl)
+    begins v new (Write part) grain (record { moves = moves; room = doing.steps.planned.room }) number actor doing (write_room v part grain.0 (grain.0 / v.lanes) w moves refl)
     (w.online, below) w.can
     (λ told s fits.
     let f = fits_write v told part s fits in
@@ -97,6 +106,16 @@ write_begins v new part grain number actor doing w below b =
       asked = asked_write (of v) told part f.0 v.chains v.grains moves grain.0 (grain.0 / v.lanes) (planned v part grain.0 (grain.0 / v.lanes) w moves refl told f.0 s f.1);
     }) b.0 b.1
 
+-- it is answered at once, and nothing is done
+pub answered_at_once : (v : LaneView) (ask : Ask) (number actor : ℕ) (reply : Reply) (entry : Entry) → HasEntered v (FitsAsk (of v) ask) number actor (request_of ask) entry v → done_write (request_of ask) reply ≡ None →
+    entry ≡ steps_entry v.lane number actor (request_of ask) reply v.grains.faults v.grains.faults [] 0 None → HasBegunAs v number actor ask (Answered entry) v
+answered_at_once v ask number actor reply entry e none is = (
+  untouched_followed v (FitsAsk (of v) ask) number actor (request_of ask) reply entry e none is,
+  refl,
+  record { moves = ap (λ (z : Entry). z.moves) is; calls = ap (λ (z : Entry). z.calls) is; untorn = ap (λ (z : Entry). z.torn) is },
+  ap (λ (z : Entry). done_write z.request z.reply) is ∙ none,
+)
+
 -- a fill of the slot with this name
 module _ (v : LaneView) (m : MapId) (grain : GrainNo) (slot : SlotId) (ready : IsReady v) where
   abbrev moves : List Move
@@ -105,47 +124,40 @@ module _ (v : LaneView) (m : MapId) (grain : GrainNo) (slot : SlotId) (ready : I
   abbrev FitsFill : Worker → LaneTold → Type 0
   FitsFill worker told = IsSome (filled_slot worker told.sheet.slots m.0 (place_of (of v) grain.0))
 
-  pub fill_here : (worker : Worker) → IsFilled v worker m grain slot.0 → (told : LaneTold) × IsLaneOf v told × FitsFill worker told → CanFillHere v slot.0 grain.0 (grain.0 / v.lanes)
-  fill_here worker filled can =
-      let x = filled can.0 can.1 can.2 in
-      record { can = (can.0, x.0, can.1, x.2); ready = ready; place_is = refl }
+  -- what the worker asks fits where it has something to fill, and it writes nothing
+  asks_fill : (worker : Worker) (told : LaneTold) → FitsFill worker told → FitsAsk (of v) (ask_of worker m grain) told
+  asks_fill Copier told some = some
+  asks_fill Cleaner told some = some
 
-  pub fill_begins : (worker : Worker) (new : LaneView) (number actor : ℕ) (doing : Doing) → IsFilled v worker m grain slot.0 → (told : LaneTold) × IsLaneOf v told × FitsFill worker told →
-      Begins v (ask_of worker m grain) grain moves number actor doing new → HasBegun v number actor (ask_of worker m grain) doing new
-  fill_begins Copier new number actor doing filled can b =
-      let w = fill_here Copier filled can in
-      begins v new (Copy m grain) grain (record { moves = moves; room = doing.steps.planned.room }) number actor doing (fill_few v slot.0 grain.0 (grain.0 / v.lanes) w moves refl) (fill_held v slot.0 grain.0 (grain.0 / v.lanes) w moves refl)
-      tt can
-      (λ told s some.
-      let y = filled told s some in
-      record {
-        slot = y.0;
-        slot_is = y.1;
-        asked = record {
-          can = runs v slot.0 grain.0 (grain.0 / v.lanes) w moves refl told y.0 s y.2;
-          own = tt;
-          number_is = refl;
-          place_is = refl;
-          planned_are = plan_of v slot.0 grain.0 (grain.0 / v.lanes) w moves refl told y.0 s y.2;
-        };
-      }) b.0 b.1
-  fill_begins Cleaner new number actor doing filled can b =
-      let w = fill_here Cleaner filled can in
-      begins v new (Clean m grain) grain (record { moves = moves; room = doing.steps.planned.room }) number actor doing (fill_few v slot.0 grain.0 (grain.0 / v.lanes) w moves refl) (fill_held v slot.0 grain.0 (grain.0 / v.lanes) w moves refl)
-      tt can
-      (λ told s some.
-      let y = filled told s some in
-      record {
-        slot = y.0;
-        slot_is = y.1;
-        asked = record {
-          can = runs v slot.0 grain.0 (grain.0 / v.lanes) w moves refl told y.0 s y.2;
-          own = tt;
-          number_is = refl;
-          place_is = refl;
-          planned_are = plan_of v slot.0 grain.0 (grain.0 / v.lanes) w moves refl told y.0 s y.2;
-        };
-      }) b.0 b.1
+  fill_asked : (worker : Worker) (told : LaneTold) → FitsAsk (of v) (ask_of worker m grain) told → FitsFill worker told
+  fill_asked Copier told fits = fits
+  fill_asked Cleaner told fits = fits
+
+  fill_owns : (worker : Worker) → CanWrite v (ask_of worker m grain)
+  fill_owns Copier = tt
+  fill_owns Cleaner = tt
+
+  -- it asks for the moves that fill the slot at place `k`
+  fill_asks : (worker : Worker) (told : LaneTold) (k : ℕ) → filled_slot worker told.sheet.slots m.0 (place_of (of v) grain.0) ≡ Some k →
+      let spot = spot_at (of v) told grain.0 in
+      CanMakeMoves (of v) told grain.0 (fill_moves spot.column k) v.chains v.grains → moves ≡ map (move_in spot) (fill_moves spot.column k) → AskedAt v told (ask_of worker m grain) grain moves
+  fill_asks Copier told k is can planned = record { slot = k; slot_is = is; asked = record { can = can; own = tt; number_is = refl; place_is = refl; planned_are = planned } }
+  fill_asks Cleaner told k is can planned = record { slot = k; slot_is = is; asked = record { can = can; own = tt; number_is = refl; place_is = refl; planned_are = planned } }
+
+  module _ (worker : Worker) (filled : IsFilled v worker m grain slot.0) (can : (f : Followed) × IsFollowing v f × FitsFill worker f.told) where
+    pub fill_here : CanFillHere v slot.0 grain.0 (grain.0 / v.lanes)
+    fill_here =
+        let x = filled can.0.told can.1.lane can.2 in
+        record { can = (can.0.told, x.0, can.1.lane, x.2); ready = ready; place_is = refl }
+
+    pub fill_begins : (new : LaneView) (number actor : ℕ) (doing : Doing) → Begins v (ask_of worker m grain) grain moves number actor doing new → HasBegun v number actor (ask_of worker m grain) doing new
+    fill_begins new number actor doing b =
+        begins v new (ask_of worker m grain) grain (record { moves = moves; room = doing.steps.planned.room }) number actor doing (fill_room v slot.0 grain.0 (grain.0 / v.lanes) fill_here moves refl)
+        (fill_owns worker) (can.0.told, can.1.lane, asks_fill worker can.0.told can.2)
+        (λ told s fits.
+        let y = filled told s (fill_asked worker told fits) in
+        fill_asks worker told y.0 y.1 (runs v slot.0 grain.0 (grain.0 / v.lanes) fill_here moves refl told y.0 s y.2) (plan_of v slot.0 grain.0 (grain.0 / v.lanes) fill_here moves refl told y.0 s y.2))
+        b.0 b.1
 
 -- ---- a step
 

@@ -9,13 +9,19 @@ use Rattle.fc_rules.specs.LaneTold.{LaneTold}
 pub count_told : (v : LaneView) (told : LaneTold) → IsLaneOf v told → volume_count told.sheet.slots ≡ volume_count v.chains.sheet.slots
 count_told v told s = ap (λ (z : Sheet). volume_count z.slots) (sym s.parts.sheet_is)
 
-module _ (v : LaneView) (ready : IsReady v) where
-  module _ (moves : ℕ) (short : moves ≤ volume_count v.chains.sheet.slots) where
-    pub few_moves : moves < 2 ^ 30
-    few_moves = let few = ready.few in omega arith
+-- so many moves can be counted, and the plan and the entry have room for them
+pub record HasRoom (v : LaneView) (moves : ℕ) : Type 0 where
+  pub few : moves < 2 ^ 30
+  pub planned : moves ≤ v.plan_room
+  pub entered : moves ≤ v.entry_room
 
-    pub moves_fit : moves ≤ v.entry_room
-    moves_fit = let room = ready.entry in omega arith
+module _ (v : LaneView) (ready : IsReady v) where
+  pub room_for : (moves : ℕ) → moves ≤ volume_count v.chains.sheet.slots → HasRoom v moves
+  room_for moves short =
+      let few = ready.few in
+      let plan = ready.plan in
+      let entry = ready.entry in
+      record { few = omega arith; planned = omega arith; entered = omega arith }
 
   pub some_room : (told : LaneTold) (k : ℕ) → IsLaneOf v told → k < length told.sheet.slots → (slot_at told.sheet.slots k).is_live ≡ true → 0 < v.entry_room
   some_room told k s there live =

@@ -1,6 +1,7 @@
 -- A write of a grain in a lane.
-use Rattle.std.proofs.Common.{◌≡◌, ℕ, ◌<◌, ◌≤◌, ◌/◌, ◌%◌, ◌^◌, Bool, true, false, not, Option, None, IsSome, List, [], length, map, refl, sym, ap, subst, ◌∙◌, arith}
+use Rattle.std.proofs.Common.{◌≡◌, ℕ, ◌<◌, ◌≤◌, ◌/◌, ◌%◌, Bool, true, false, not, Option, None, IsSome, List, [], length, map, refl, sym, ap, subst, ◌∙◌, arith}
 use Rattle.std.proofs.lemmas.List.{length-map}
+use Rattle.fc_base.specs.Grain.{grain_blocks}
 use Rattle.fc_base.specs.Moves.{write_moves}
 use Rattle.fc_base.specs.Plan.{move_at, moves_of_write}
 use Rattle.fc_base.specs.Sheet.{Sheet, column, live_place}
@@ -24,7 +25,7 @@ use Rattle.fc_steps.specs.StepsEnd.{StandsAt, StepsEnd, StepsStand, torn_in}
 use Rattle.fc_steps.specs.declared.stop.Stop.{Stop}
 use Rattle.fc_lane.proofs.Entering.{disks_after, disks_as, nothing_entered, room_after, same_after, stands_at}
 use Rattle.fc_lane.proofs.WriteEntry.{fits_write, lost_answers, unreached, write_right, write_told}
-use Rattle.fc_lane.proofs.Room.{count_told, few_moves, moves_fit, some_room}
+use Rattle.fc_lane.proofs.Room.{HasRoom, count_told, room_for, some_room}
 use Rattle.fc_steps.proofs.Writable.{write_short}
 use Rattle.fc_steps.proofs.Writable.{plan_of_write}
 use Rattle.fc_rules.specs.GrainAnswers.{ByAccess, cannot_write}
@@ -102,14 +103,8 @@ module _ (v : LaneView) (part : WritePart) (grain place : ℕ) (w : IsWritable v
       let same = count_told v told s in
       omega arith
 
-  pub plan_few : length plan < 2 ^ 30
-  plan_few = few_moves v w.ready (length plan) plan_short
-
-  pub plan_fits : length plan ≤ v.entry_room
-  plan_fits = moves_fit v w.ready (length plan) plan_short
-
-  pub plan_held : length plan ≤ v.plan_room
-  plan_held = let room = w.ready.plan in let short = plan_short in omega arith
+  pub write_room : HasRoom v (length plan)
+  write_room = room_for v w.ready (length plan) plan_short
 
   pub plan_some : 0 < v.entry_room
   plan_some = let f = fits_write v w.can.0 part w.can.1 w.can.2 in some_room v w.ready w.can.0 f.0 w.can.1 f.1.live.there f.1.live.is_live
@@ -178,7 +173,7 @@ module _ (v : LaneView) (part : WritePart) (grain place : ℕ) (w : IsOnline v p
   place_told : place ≡ place_of (of v) (grain_of_block v.grains.grain part.block)
   place_told = place_is ∙ ap (λ z. z / v.lanes) number_is
 
-  pub write_fits : (l : LaneOf) × (told : LaneTold) × (t : ℕ) × StandsAt l told v.chains v.grains × FitsWrite l told part t × (grain ≡ grain_of_block l.grain part.block) × (place ≡ place_of l (grain_of_block l.grain part.block))
+  write_fits : (l : LaneOf) × (told : LaneTold) × (t : ℕ) × StandsAt l told v.chains v.grains × FitsWrite l told part t × (grain ≡ grain_of_block l.grain part.block) × (place ≡ place_of l (grain_of_block l.grain part.block))
   write_fits =
       let f = fits_write v w.can.0 part w.can.1 w.can.2 in
       (of v, w.can.0, f.0, stands_at v w.can.0 w.can.1, f.1, number_is, place_told)
@@ -189,7 +184,7 @@ module _ (v : LaneView) (part : WritePart) (grain place : ℕ) (w : IsOnline v p
       let f = fits_write v told part s fits in
       tells (of v) told f.0 (stands_at v told s) f.1 number_is place_told
 
-  pub is_writable : (answer : Bool) → TellsWritable v part grain place answer → answer ≡ true → (told : LaneTold) → IsLaneOf v told → FitsPart (of v) told part.volume part.block part.count →
+  is_writable : (answer : Bool) → TellsWritable v part grain place answer → answer ≡ true → (told : LaneTold) → IsLaneOf v told → FitsPart (of v) told part.volume part.block part.count →
       cannot_write v.grains.grain (spot_of (of v) told part) part ≡ false
   is_writable answer tells e told s fits = not_true (cannot_write v.grains.grain (spot_of (of v) told part) part) (sym (told_by answer told tells s fits) ∙ e)
     where
@@ -197,7 +192,7 @@ module _ (v : LaneView) (part : WritePart) (grain place : ℕ) (w : IsOnline v p
       not_true true e = absurd cc
       not_true false e = refl
 
-  pub lost_entered : (answer : Bool) (number actor : ℕ) (entry : Entry) → TellsWritable v part grain place answer → answer ≡ false →
+  lost_entered : (answer : Bool) (number actor : ℕ) (entry : Entry) → TellsWritable v part grain place answer → answer ≡ false →
       entry ≡ steps_entry v.lane number actor (Write part) MediumError v.grains.faults v.grains.faults [] 0 None →
       HasEntered v (λ told. FitsPart (of v) told part.volume part.block part.count) number actor (Write part) entry v
   lost_entered answer number actor entry tells e is =
@@ -210,3 +205,40 @@ module _ (v : LaneView) (part : WritePart) (grain place : ℕ) (w : IsOnline v p
       not_false : (b : Bool) → not b ≡ false → b ≡ true
       not_false true e = refl
       not_false false e = absurd cc
+
+-- ---- as the code finds it
+
+-- `u` is the lane `v` as the code has it, and `blocks` how many blocks a grain has
+module _ (u v : LaneView) (part : WritePart) (blocks : ℕ) (same : u ≡ v) (online : IsOnline v part) (blocks_are : blocks ≡ grain_blocks u.grains.grain) where
+  abbrev grain_here : ℕ
+  grain_here = part.block / blocks
+
+  abbrev place_here : ℕ
+  place_here = grain_here / u.lanes
+
+  pub fits_here : (l : LaneOf) × (told : LaneTold) × (t : ℕ) × StandsAt l told u.chains u.grains × FitsWrite l told part t × (grain_here ≡ grain_of_block l.grain part.block) × (place_here ≡ place_of l (grain_of_block l.grain part.block))
+  fits_here = write_fits u part grain_here place_here (subst (λ (z : LaneView). IsOnline z part) (sym same) online) (ap (λ (z : ℕ). part.block / z) blocks_are) refl
+
+  grain_told : grain_here ≡ grain_of_block v.grains.grain part.block
+  grain_told = ap (λ (z : ℕ). part.block / z) blocks_are ∙ ap (λ (z : LaneView). grain_of_block z.grains.grain part.block) same
+
+  lanes_told : place_here ≡ grain_here / v.lanes
+  lanes_told = ap (λ (z : LaneView). grain_here / z.lanes) same
+
+  module _ (answer : Bool) (tells : TellsWritable u part grain_here place_here answer) where
+    tells_here : TellsWritable v part grain_here place_here answer
+    tells_here = subst (λ (z : LaneView). TellsWritable z part grain_here place_here answer) same tells
+
+    pub writable_here : answer ≡ true → IsReady v → IsWritable v part grain_here (grain_here / v.lanes)
+    writable_here is ready = record {
+      can = online.can;
+      writable = is_writable v part grain_here place_here online grain_told lanes_told answer tells_here is;
+      ready = ready;
+      online = online.online;
+      number_is = grain_told;
+      place_is = refl;
+    }
+
+    pub lost_here : (number actor : ℕ) (entry : Entry) → answer ≡ false → entry ≡ steps_entry v.lane number actor (Write part) MediumError v.grains.faults v.grains.faults [] 0 None →
+        HasEntered v (λ told. FitsPart (of v) told part.volume part.block part.count) number actor (Write part) entry v
+    lost_here number actor entry e is = lost_entered v part grain_here place_here online grain_told lanes_told answer number actor entry tells_here e is

@@ -172,44 +172,24 @@ run_then grain read w mid segs more xs run =
     subst P run.over (Goes-more_segments grain read more (Session segs) run.end w mid xs run.goes)
 
 -- The segments of a run, and segments that are answered after it: to their end, in part, or up to one more request.
-pub IsRun-append :
-    (grain : GrainSize) (read : Reading) (w mid last : Whole) (segs more : List Segment) (xs ys : List Entry) →
-    IsRun grain read w segs xs mid →
-    IsRun grain read mid more ys last →
-    IsRun grain read w (segs ++ more) (xs ++ ys) last
-IsRun-append grain read w mid last segs more xs ys before after =
-    record {
-      end = after.end;
-      goes = Goes-append (session_rules grain read) (Session (segs ++ more)) (Session more) after.end w mid last xs ys
-          (run_then grain read w mid segs more xs before) after.goes;
-      over = after.over;
-    }
+module _ (grain : GrainSize) (read : Reading) (w mid last : Whole) (segs more : List Segment) (xs ys : List Entry) (before : IsRun grain read w segs xs mid) where
+  goes_behind :
+      (end : Agenda) →
+      Goes (session_rules grain read) (Session more) mid ys end last →
+      Goes (session_rules grain read) (Session (segs ++ more)) w (xs ++ ys) end last
+  goes_behind end after =
+      Goes-append (session_rules grain read) (Session (segs ++ more)) (Session more) end w mid last xs ys
+      (run_then grain read w mid segs more xs before) after
 
-pub IsPartialRun-append :
-    (grain : GrainSize) (read : Reading) (w mid last : Whole) (segs more : List Segment) (xs ys : List Entry) →
-    IsRun grain read w segs xs mid →
-    IsPartialRun grain read mid more ys last →
-    IsPartialRun grain read w (segs ++ more) (xs ++ ys) last
-IsPartialRun-append grain read w mid last segs more xs ys before after =
-    record {
-      end = after.end;
-      goes = Goes-append (session_rules grain read) (Session (segs ++ more)) (Session more) after.end w mid last xs ys
-          (run_then grain read w mid segs more xs before) after.goes;
-    }
+  pub IsRun-append : IsRun grain read mid more ys last → IsRun grain read w (segs ++ more) (xs ++ ys) last
+  IsRun-append after = record { end = after.end; goes = goes_behind after.end after.goes; over = after.over }
 
-pub WantsMore-append :
-    (grain : GrainSize) (read : Reading) (w mid last : Whole) (segs more : List Segment) (xs ys : List Entry) →
-    IsRun grain read w segs xs mid →
-    WantsMore grain read mid more ys last →
-    WantsMore grain read w (segs ++ more) (xs ++ ys) last
-WantsMore-append grain read w mid last segs more xs ys before after =
-    record {
-      end = after.end;
-      goes = Goes-append (session_rules grain read) (Session (segs ++ more)) (Session more) after.end w mid last xs ys
-          (run_then grain read w mid segs more xs before) after.goes;
-      wanted = after.wanted;
-      asks = after.asks;
-    }
+  pub IsPartialRun-append : IsPartialRun grain read mid more ys last → IsPartialRun grain read w (segs ++ more) (xs ++ ys) last
+  IsPartialRun-append after = record { end = after.end; goes = goes_behind after.end after.goes }
+
+  pub WantsMore-append : WantsMore grain read mid more ys last → WantsMore grain read w (segs ++ more) (xs ++ ys) last
+  WantsMore-append after =
+      record { end = after.end; goes = goes_behind after.end after.goes; wanted = after.wanted; asks = after.asks }
 
 -- A run of no segments; a part is one of more segments too, and what was answered to its end in part.
 pub IsRun-nil : (grain : GrainSize) (read : Reading) (w : Whole) → IsRun grain read w [] [] w

@@ -1,6 +1,7 @@
 -- Lemmas, one subject a file; and the definitions on closed examples.
 pub mod Alone
 pub mod Appending
+pub mod Each
 pub mod Events
 pub mod Naming
 pub mod RoomExamples

@@ -11,6 +11,7 @@ use Rattle.fc_changed.specs.Notes.{Note, has, joins}
 use Rattle.fc_changed.specs.Notes.Note.{Began, Wrote, Left, Cut, Forgotten}
 use Rattle.fc_changed.specs.Row.{Row, is_of, row_names, with_all, with_none, row_began, row_wrote, row_left, row_cut, after_note}
 use Rattle.fc_legal.specs.Stands.{IsOfMapping, AreRows}
+use Rattle.fc_legal.proofs.Each.{Each, each_append}
 
 -- ---- rows that differ in their grains alone
 
@@ -88,12 +89,10 @@ IsMild (Began m source target followed) = ⊥
 IsMild note = Unit {0}
 
 abbrev pub AreMild : List Note → Type 0
-AreMild [] = Unit {0}
-AreMild (n ∷ ns) = IsMild n × AreMild ns
+AreMild notes = Each IsMild notes
 
 pub mild_append : (ns ms : List Note) → AreMild ns → AreMild ms → AreMild (ns ++ ms)
-mild_append [] ms first second = second
-mild_append (n ∷ ns) ms first second = (first.0, mild_append ns ms first.1 second)
+mild_append ns ms first second = each_append IsMild ns ms first second
 
 mild_rows : (t : Tables) (rows : List Row) (note : Note) → IsMild note → AreRows t rows → AreRows t (after_note rows note)
 mild_rows t rows (Began m source target followed) mild all = absurd mild

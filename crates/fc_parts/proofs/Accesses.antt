@@ -85,26 +85,19 @@ pub record IsDoneIn (l : LaneOf) (write : Option WritePart) (entry : Entry) : Ty
 idle_in : (l : LaneOf) → IsLane l → (entry : Entry) → HasDoneNothing entry → IsDoneIn l None entry
 idle_in l i entry n = record { number = l.lane; is_of = mod-eq_of_lt i; all = nothing_at l.lane entry n.moves n.untorn; write_at = tt }
 
+filled_in : (l : LaneOf) (told : LaneTold) (m number : ℕ) (o : Option ℕ) (entry : Entry) → IsOf l number → MappingFill l told m number o entry → IsDoneIn l None entry
+filled_in l told m number o entry is_of a = record { number = number; is_of = is_of; all = fill_at l told m number o entry a; write_at = tt }
+
 done_in : (grain : GrainSize) (w : Whole) (i : ℕ) (told : LaneTold) (request : Request) (entry : Entry) → i < lanes w → IsOfLane grain w i request →
     LaneAnswers (lane_at grain w i) told request entry → IsDoneIn (lane_at grain w i) (done_write request entry.reply) entry
 done_in grain w i told (CopyTurn lane) entry lt asked a =
     let l : LaneOf = lane_at grain w i in
     turn_case (CopyAnswers l told) (next_copy l told) entry (IsDoneIn l None entry) (idle_in l lt entry)
-    (λ work e answers. record {
-      number = work.1.0;
-      is_of = copied_of l lt told work e;
-      all = fill_at l told work.0.0 work.1.0 (copied_slot told.sheet.slots work.0.0 (place_of l work.1.0)) entry answers;
-      write_at = tt;
-    }) a
+    (λ work e. filled_in l told work.0.0 work.1.0 (copied_slot told.sheet.slots work.0.0 (place_of l work.1.0)) entry (copied_of l lt told work e)) a
 done_in grain w i told (CleanTurn lane) entry lt asked a =
     let l : LaneOf = lane_at grain w i in
     turn_case (CleanAnswers l told) (next_clean l told) entry (IsDoneIn l None entry) (idle_in l lt entry)
-    (λ work e answers. record {
-      number = work.1.0;
-      is_of = cleaned_of l lt told work e;
-      all = fill_at l told work.0.0 work.1.0 (cleaned_slot told.sheet.slots work.0.0 (place_of l work.1.0)) entry answers;
-      write_at = tt;
-    }) a
+    (λ work e. filled_in l told work.0.0 work.1.0 (cleaned_slot told.sheet.slots work.0.0 (place_of l work.1.0)) entry (cleaned_of l lt told work e)) a
 done_in grain w i told request entry lt asked a =
     record {
       number = asked.0;

@@ -15,11 +15,12 @@ use Rattle.fc_changed.specs.Notes.Note.{Began, Wrote, Left}
 use Rattle.fc_changed.specs.Row.{Row, after_note}
 use Rattle.fc_entry.specs.Picture.{grain_of_block}
 use Rattle.fc_follow.specs.Following.{slot_leaves, leaving, beginning, event_notes, rows_event, write_notes, side_notes, torn_notes}
+use Rattle.fc_legal.proofs.Each.{each_append}
 use Rattle.fc_legal.specs.Whole.{part, part_of_slot, part_of_rows, single_lane}
 use Rattle.fc_rules.specs.LaneTold.{LaneOf, place_of, grains_in}
 use Rattle.fc_parts.proofs.Grains.{WriteAt, TornAt, away_same}
 use Rattle.fc_parts.proofs.Numbers.{IsLane, IsOf, of_same, all_place}
-use Rattle.fc_parts.proofs.Rows.{note_part, AreNotesOf, notes_of_both, all_note_parts, write_unseen}
+use Rattle.fc_parts.proofs.Rows.{note_part, IsNoteOf, AreNotesOf, all_note_parts, write_unseen}
 use Rattle.fc_parts.proofs.Views.{parts, slot_parts, mapping_parts, grains_parts}
 
 -- ---- a slot that leaves, and a mapping that begins
@@ -76,7 +77,7 @@ leaving_of l slots m = leaves_of l slots (mapping_place slots m.0)
 
 all_leaving_of : (l : LaneOf) (slots : List Slot) (ms : List MapId) → AreNotesOf l (flat_map (leaving slots) ms)
 all_leaving_of l slots [] = tt
-all_leaving_of l slots (m ∷ ms) = notes_of_both l (leaving slots m) (flat_map (leaving slots) ms) (leaving_of l slots m) (all_leaving_of l slots ms)
+all_leaving_of l slots (m ∷ ms) = each_append (IsNoteOf l) (leaving slots m) (flat_map (leaving slots) ms) (leaving_of l slots m) (all_leaving_of l slots ms)
 
 all_beginning_of : (l : LaneOf) (slots : List Slot) (pairs : List Pair) → AreNotesOf l (map (beginning slots) pairs)
 all_beginning_of l slots [] = tt
@@ -99,7 +100,7 @@ event_notes_of l slots (Trigger pairs) = all_beginning_of l slots pairs
 event_notes_of l slots (Retire m) = leaving_of l slots m
 event_notes_of l slots (Detach m) = leaving_of l slots m
 event_notes_of l slots (Split m) = leaving_of l slots m
-event_notes_of l slots (Force m dependents) = notes_of_both l (leaving slots m) (flat_map (leaving slots) dependents) (leaving_of l slots m) (all_leaving_of l slots dependents)
+event_notes_of l slots (Force m dependents) = each_append (IsNoteOf l) (leaving slots m) (flat_map (leaving slots) dependents) (leaving_of l slots m) (all_leaving_of l slots dependents)
 event_notes_of l slots (Forget m) = (tt, tt)
 event_notes_of l slots (NoteCut m source target) = (tt, tt)
 event_notes_of l slots e = tt
@@ -150,7 +151,7 @@ pub rows_here : (l : LaneOf) → IsLane l → (number : ℕ) → IsOf l number �
 rows_here l i number is_of rows write torn w t =
     let all : LaneOf = single_lane l.grain in
     all_note_parts l i rows (notes_of all write torn)
-    (notes_of_both l (write_notes all write) (torn_notes all torn) (written_of l number is_of write w) (torn_of l number is_of torn t))
+    (each_append (IsNoteOf l) (write_notes all write) (torn_notes all torn) (written_of l number is_of write w) (torn_of l number is_of torn t))
     ∙ ap (fold after_note (part_of_rows l rows))
     (map-append (note_part l) (write_notes all write) (torn_notes all torn) ∙ ap₂ (λ a b. a ++ b) (written_part l write) (torn_part l torn))
 

@@ -6,6 +6,7 @@ use Rattle.std.proofs.lemmas.List.{map-append}
 use Rattle.fc_changed.specs.Notes.{Note, joins}
 use Rattle.fc_changed.specs.Notes.Note.{Began, Wrote, Left, Cut, Forgotten}
 use Rattle.fc_changed.specs.Row.{Row, is_of, row_names, with_all, with_none, row_began, row_wrote, row_left, row_cut, with_new, after_note, row_restart, restart_in}
+use Rattle.fc_legal.proofs.Each.{Each}
 use Rattle.fc_legal.specs.Whole.{part, part_of_row, part_of_rows}
 use Rattle.fc_pick.proofs.Rows.{list_any-map, map-filter}
 use Rattle.fc_rules.specs.LaneTold.{LaneOf, place_of, grains_in}
@@ -30,12 +31,7 @@ IsNoteOf l (Wrote volume grain) = IsOf l grain
 IsNoteOf l note = Unit {0}
 
 abbrev pub AreNotesOf : LaneOf → List Note → Type 0
-AreNotesOf l [] = Unit {0}
-AreNotesOf l (note ∷ notes) = IsNoteOf l note × AreNotesOf l notes
-
-pub notes_of_both : (l : LaneOf) (xs ys : List Note) → AreNotesOf l xs → AreNotesOf l ys → AreNotesOf l (xs ++ ys)
-notes_of_both l [] ys a b = b
-notes_of_both l (x ∷ xs) ys a b = (a.0, notes_of_both l xs ys a.1 b)
+AreNotesOf l notes = Each (IsNoteOf l) notes
 
 -- ---- one row
 

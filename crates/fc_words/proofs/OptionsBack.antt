@@ -6,16 +6,13 @@ use Rattle.std.specs.Prelude.{⊤}
 use Rattle.fc_base.specs.CommandText.{byte_word, delim_word, flag_words, given_words, grain_size_word, name_word, object_words, option_words, preset_word, ref_word, unit_word, way_words}
 use Rattle.fc_base.specs.declared.command.Command.{Command}
 use Rattle.fc_base.specs.declared.command.Line.TheVariants.{Command as OfCommand}
-use Rattle.fc_base.specs.declared.command.Preset.{Preset as CopyPreset}
 use Rattle.fc_base.specs.declared.command.Preset.TheVariants.{Snapshot, Clone, Backup}
 use Rattle.fc_base.specs.declared.command.StopWay.{StopWay}
 use Rattle.fc_base.specs.declared.command.StopWay.TheVariants.{Plain, Force as ByForce, Split as BySplit}
-use Rattle.fc_base.specs.declared.command.Unit.{Unit as SizeUnit}
 use Rattle.fc_base.specs.declared.command.Unit.TheVariants.{Kb, Mb, Gb}
 use Rattle.fc_base.specs.declared.fault.WordFault.{WordFault}
 use Rattle.fc_base.specs.declared.fault.WordFault.TheVariants.{BadName, BadNumber}
 use Rattle.fc_base.specs.declared.name.Ref.{Ref}
-use Rattle.fc_base.specs.declared.size.GrainSize.{GrainSize}
 use Rattle.fc_base.specs.declared.size.GrainSize.TheVariants.{K64, K256}
 use Rattle.fc_words.specs.declared.given.Flags.{Flags}
 use Rattle.fc_words.specs.declared.given.Operands.{Operands}
@@ -47,81 +44,46 @@ pub record Values {T : Type 0} (word : T → List ℕ) (read : ℕ → List ℕ 
   pub stands : (x : T) → Good x → is_word (word x) ≡ true
   pub back : (x : T) → Good x → (at : ℕ) → read at (word x) ≡ Ok x
 
-abbrev name_at : ℕ → List ℕ → Result (List ℕ) WordFault
-name_at at word = ok_or (name_of word) (BadName at)
+-- what a word says, with the fault of one that doesn't
+abbrev or_bad_name : {T : Type 0} → (List ℕ → Option T) → ℕ → List ℕ → Result T WordFault
+or_bad_name of at word = ok_or (of word) (BadName at)
 
-pub names : Values name_word name_at IsName
+abbrev or_bad_number : {T : Type 0} → (List ℕ → Option T) → ℕ → List ℕ → Result T WordFault
+or_bad_number of at word = ok_or (of word) (BadNumber at)
+
+pub names : Values name_word (or_bad_name name_of) IsName
 names = record { stands = is_word-name; back = λ name good at. rw (name_of-name name good) refl }
 
-abbrev number_at : ℕ → List ℕ → Result ℕ WordFault
-number_at at word = ok_or (number_in word) (BadNumber at)
-
-pub numbers : Values decimal number_at IsNumber
+pub numbers : Values decimal (or_bad_number number_in) IsNumber
 numbers = record { stands = is_word-decimal; back = λ n good at. rw (number_in-decimal n good) refl }
 
 pub objects : Values ref_word ref_at IsObject
 objects = record { stands = is_word-ref; back = λ object good at. ref_at-word at object good }
 
-abbrev byte_at : ℕ → List ℕ → Result ℕ WordFault
-byte_at at word = ok_or (byte_of word) (BadNumber at)
-
-pub byte_values : Values byte_word byte_at (λ byte. byte < 256)
+pub byte_values : Values byte_word (or_bad_number byte_of) (λ byte. byte < 256)
 byte_values = record { stands = is_word-byte; back = λ byte good at. rw (byte_of-word byte good) refl }
 
-abbrev delim_at : ℕ → List ℕ → Result ℕ WordFault
-delim_at at word = ok_or (delim_of word) (BadName at)
-
-pub delims : Values delim_word delim_at IsDelim
+pub delims : Values delim_word (or_bad_name delim_of) IsDelim
 delims = record {
   stands = λ delim good. is_word-delim delim good.0;
   back = λ delim good at. rw (delim_of-printable delim good.0 good.1) refl;
 }
 
-abbrev unit_at : ℕ → List ℕ → Result SizeUnit WordFault
-unit_at at word = ok_or (unit_of word) (BadNumber at)
+-- a choice whose word may stand in a line, and says it
+abbrev Says : {T : Type 0} → (T → List ℕ) → (List ℕ → Option T) → T → Type 0
+Says word of x = (is_word (word x) ≡ true) × (of (word x) ≡ Some x)
 
-is_word-unit : (unit : SizeUnit) → is_word (unit_word unit) ≡ true
-is_word-unit Kb = refl
-is_word-unit Mb = refl
-is_word-unit Gb = refl
+choices : {T : Type 0} (word : T → List ℕ) (of : List ℕ → Option T) → ((x : T) → Says word of x) → Values word (or_bad_number of) (λ _. ⊤)
+choices word of says = record { stands = λ x good. (says x).0; back = λ x good at. rw ((says x).1) refl }
 
-unit_at-word : (unit : SizeUnit) (at : ℕ) → unit_at at (unit_word unit) ≡ Ok unit
-unit_at-word Kb at = refl
-unit_at-word Mb at = refl
-unit_at-word Gb at = refl
+pub units : Values unit_word (or_bad_number unit_of) (λ _. ⊤)
+units = choices unit_word unit_of (λ unit. elim unit as (Says unit_word unit_of) [ Kb ↦ (refl, refl) | Mb ↦ (refl, refl) | Gb ↦ (refl, refl) ])
 
-pub units : Values unit_word unit_at (λ _. ⊤)
-units = record { stands = λ unit good. is_word-unit unit; back = λ unit good at. unit_at-word unit at }
+pub grain_sizes : Values grain_size_word (or_bad_number grain_size_of) (λ _. ⊤)
+grain_sizes = choices grain_size_word grain_size_of (λ size. elim size as (Says grain_size_word grain_size_of) [ K64 ↦ (refl, refl) | K256 ↦ (refl, refl) ])
 
-abbrev grain_size_at : ℕ → List ℕ → Result GrainSize WordFault
-grain_size_at at word = ok_or (grain_size_of word) (BadNumber at)
-
-is_word-grain : (size : GrainSize) → is_word (grain_size_word size) ≡ true
-is_word-grain K64 = refl
-is_word-grain K256 = refl
-
-grain_size_at-word : (size : GrainSize) (at : ℕ) → grain_size_at at (grain_size_word size) ≡ Ok size
-grain_size_at-word K64 at = refl
-grain_size_at-word K256 at = refl
-
-pub grain_sizes : Values grain_size_word grain_size_at (λ _. ⊤)
-grain_sizes = record { stands = λ size good. is_word-grain size; back = λ size good at. grain_size_at-word size at }
-
-abbrev preset_at : ℕ → List ℕ → Result CopyPreset WordFault
-preset_at at word = ok_or (preset_of word) (BadNumber at)
-
-is_word-preset : (preset : CopyPreset) → is_word (preset_word preset) ≡ true
-is_word-preset Snapshot = refl
-is_word-preset Clone = refl
-is_word-preset Backup = refl
-
-preset_at-word : (preset : CopyPreset) (at : ℕ) → preset_at at (preset_word preset) ≡ Ok preset
-preset_at-word Snapshot at = refl
-preset_at-word Clone at = refl
-preset_at-word Backup at = refl
-
-pub presets : Values preset_word preset_at (λ _. ⊤)
-presets = record { stands = λ preset good. is_word-preset preset; back = λ preset good at. preset_at-word preset at }
+pub presets : Values preset_word (or_bad_number preset_of) (λ _. ⊤)
+presets = choices preset_word preset_of (λ preset. elim preset as (Says preset_word preset_of) [ Snapshot ↦ (refl, refl) | Clone ↦ (refl, refl) | Backup ↦ (refl, refl) ])
 
 -- what is read is put to use
 read_well : {T U : Type 0} (put : T → U) (result : Result T WordFault) (x : T) → result ≡ Ok x → on_read put result ≡ Ok (put x)
@@ -174,7 +136,7 @@ Reads-taken {T} {word} {read} {Good} values verb operand put value {s} {f} {word
 -- a number of the line
 pub Reads-number : (verb : Verb) (operand : Operand) (put : Option ℕ → Operands) (n : ℕ) {s : Settings} {f : Flags} {words : List (List ℕ)} {most : ℕ} {command : Command} →
     find (is_wanted (put None)) (operands_of verb) ≡ Some operand →
-    ((at : ℕ) (w : List ℕ) → take operand at w (put None) ≡ on_read (λ x. put (Some x)) (number_at at w)) →
+    ((at : ℕ) (w : List ℕ) → take operand at w (put None) ≡ on_read (λ x. put (Some x)) (or_bad_number number_in at w)) →
     IsNumber n →
     Reads verb s f (put (Some n)) words most command →
     Reads verb s f (put None) (decimal n ∷ words) (most + 1) command

@@ -54,24 +54,26 @@ abbrev pub turns_of : List ℕ → Option ℕ
 turns_of word =
     if is_numeral word && (nat_le 1 (digits_value 10 word) && nat_le (digits_value 10 word) 10000) then Some (digits_value 10 word) else None
 
+-- the first of the choices that is spelled so
+abbrev pub spelled : {T : Type 0} → List ℕ → List (List ℕ × T) → Option T
+spelled word [] = None
+spelled word (choice ∷ choices) = if bytes_eq word choice.0 then Some choice.1 else spelled word choices
+
 -- `kb`, `mb` or `gb`
 abbrev pub unit_of : List ℕ → Option SizeUnit
-unit_of word =
-    if bytes_eq word (codes "kb") then Some Kb else (if bytes_eq word (codes "mb") then Some Mb else (if bytes_eq word (codes "gb") then Some Gb else None))
+unit_of word = spelled word ((codes "kb", Kb) ∷ (codes "mb", Mb) ∷ (codes "gb", Gb) ∷ [])
 
 -- `64` or `256`
 abbrev pub grain_size_of : List ℕ → Option GrainSize
-grain_size_of word = if bytes_eq word (codes "64") then Some K64 else (if bytes_eq word (codes "256") then Some K256 else None)
+grain_size_of word = spelled word ((codes "64", K64) ∷ (codes "256", K256) ∷ [])
 
 -- `snapshot`, `clone` or `backup`
 abbrev pub preset_of : List ℕ → Option Preset
-preset_of word =
-    if bytes_eq word (codes "snapshot") then Some Snapshot else (if bytes_eq word (codes "clone") then Some Clone else (if bytes_eq word (codes "backup") then Some Backup else None))
+preset_of word = spelled word ((codes "snapshot", Snapshot) ∷ (codes "clone", Clone) ∷ (codes "backup", Backup) ∷ [])
 
 -- `host`, `admin`, `copier` or `cleaner`
 abbrev pub role_of : List ℕ → Option RoleWord
-role_of word =
-    if bytes_eq word (codes "host") then Some Host else (if bytes_eq word (codes "admin") then Some Admin else (if bytes_eq word (codes "copier") then Some Copier else (if bytes_eq word (codes "cleaner") then Some Cleaner else None)))
+role_of word = spelled word ((codes "host", Host) ∷ (codes "admin", Admin) ∷ (codes "copier", Copier) ∷ (codes "cleaner", Cleaner) ∷ [])
 
 -- the word, where it is a name
 abbrev pub name_of : List ℕ → Option (List ℕ)

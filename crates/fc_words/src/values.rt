@@ -1,12 +1,12 @@
 //! Values that words say: numbers, objects, choices, bytes.
 
-ghost use Rattle.std.specs.Prelude.{◌≡◌};
+ghost use Rattle.std.specs.Prelude.{◌≡◌, map};
 ghost use Rattle.std.specs.Option.{ok_or};
 ghost use Rattle.std.specs.Char.{is_digit};
 ghost use Rattle.std.specs.List.{list_all};
 ghost use Rattle.fc_words.specs.Answers.{Answers};
 ghost use Rattle.fc_words.specs.Digits.{pushed};
-ghost use Rattle.fc_words.specs.Values.{is_numeral, number_in, hex_of, byte_of, delim_of, turns_of, unit_of, grain_size_of, preset_of, role_of, name_of, ref_at};
+ghost use Rattle.fc_words.specs.Values.{is_numeral, number_in, hex_of, byte_of, delim_of, turns_of, unit_of, grain_size_of, preset_of, role_of, spelled, name_of, ref_at};
 
 use crate::given::RoleWord;
 use crate::refused::WordRefused;
@@ -120,64 +120,57 @@ pub(crate) fn read_turns(word: &[u8], at: u32) -> Result<u32, WordFault>
     }
 }
 
+/// The first of the choices that is spelled so. None where none is.
+fn spelled<T: Copy>(word: &[u8], choices: &[(&[u8], T)]) -> Option<T>
+    ensures { result ≡ spelled word.now (map (λ choice. (choice.0.now, choice.1)) choices.now) }
+{
+    for (spelling, choice) in choices {
+        if word == *spelling {
+            return Some(*choice);
+        }
+    }
+    None
+}
+
 /// `kb`, `mb` or `gb`.
 pub(crate) fn read_unit(word: &[u8], at: u32) -> Result<Unit, WordFault>
     ensures { result ≡ ok_or (unit_of word.now) (WordFault.BadNumber at) }
 {
-    if word == b"kb".as_slice() {
-        Ok(Unit::Kb)
-    } else if word == b"mb".as_slice() {
-        Ok(Unit::Mb)
-    } else if word == b"gb".as_slice() {
-        Ok(Unit::Gb)
-    } else {
-        Err(WordFault::BadNumber(at))
-    }
+    let choices: [(&[u8], Unit); 3] = [(b"kb", Unit::Kb), (b"mb", Unit::Mb), (b"gb", Unit::Gb)];
+    spelled(word, &choices).ok_or(WordFault::BadNumber(at))
 }
 
 /// `64` or `256`.
 pub(crate) fn read_grain_size(word: &[u8], at: u32) -> Result<GrainSize, WordFault>
     ensures { result ≡ ok_or (grain_size_of word.now) (WordFault.BadNumber at) }
 {
-    if word == b"64".as_slice() {
-        Ok(GrainSize::K64)
-    } else if word == b"256".as_slice() {
-        Ok(GrainSize::K256)
-    } else {
-        Err(WordFault::BadNumber(at))
-    }
+    let choices: [(&[u8], GrainSize); 2] = [(b"64", GrainSize::K64), (b"256", GrainSize::K256)];
+    spelled(word, &choices).ok_or(WordFault::BadNumber(at))
 }
 
 /// `snapshot`, `clone` or `backup`.
 pub(crate) fn read_preset(word: &[u8], at: u32) -> Result<Preset, WordFault>
     ensures { result ≡ ok_or (preset_of word.now) (WordFault.BadNumber at) }
 {
-    if word == b"snapshot".as_slice() {
-        Ok(Preset::Snapshot)
-    } else if word == b"clone".as_slice() {
-        Ok(Preset::Clone)
-    } else if word == b"backup".as_slice() {
-        Ok(Preset::Backup)
-    } else {
-        Err(WordFault::BadNumber(at))
-    }
+    let choices: [(&[u8], Preset); 3] = [
+        (b"snapshot", Preset::Snapshot),
+        (b"clone", Preset::Clone),
+        (b"backup", Preset::Backup),
+    ];
+    spelled(word, &choices).ok_or(WordFault::BadNumber(at))
 }
 
 /// `host`, `admin`, `copier` or `cleaner`.
 pub(crate) fn read_role(word: &[u8], at: u32) -> Result<RoleWord, WordFault>
     ensures { result ≡ ok_or (role_of word.now) (WordFault.BadNumber at) }
 {
-    if word == b"host".as_slice() {
-        Ok(RoleWord::Host)
-    } else if word == b"admin".as_slice() {
-        Ok(RoleWord::Admin)
-    } else if word == b"copier".as_slice() {
-        Ok(RoleWord::Copier)
-    } else if word == b"cleaner".as_slice() {
-        Ok(RoleWord::Cleaner)
-    } else {
-        Err(WordFault::BadNumber(at))
-    }
+    let choices: [(&[u8], RoleWord); 4] = [
+        (b"host", RoleWord::Host),
+        (b"admin", RoleWord::Admin),
+        (b"copier", RoleWord::Copier),
+        (b"cleaner", RoleWord::Cleaner),
+    ];
+    spelled(word, &choices).ok_or(WordFault::BadNumber(at))
 }
 
 /// A name.

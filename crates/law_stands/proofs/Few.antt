@@ -1,5 +1,5 @@
 -- All volumes together have few grains, through every decision.
-use Rattle.std.proofs.Common.{◌≡◌, ℕ, ◌+◌, ◌*◌, ◌/◌, ◌%◌, ◌≤◌, Bool, false, not, ◌||◌, ◌==◌, nat_le, nat_lt, List, [], ◌∷◌, ◌++◌, length, fold, Option, Some, None, Contains, refl, sym, ap, subst, arith}
+use Rattle.std.proofs.Common.{◌≡◌, ℕ, ◌+◌, ◌*◌, ◌/◌, ◌≤◌, Bool, false, not, ◌==◌, nat_lt, List, [], ◌∷◌, ◌++◌, fold, Option, Some, None, Contains, refl, sym, ap, subst, arith}
 use Rattle.std.proofs.lemmas.Bool.Decides.{nat_tests}
 use Rattle.std.specs.List.{filter}
 use Rattle.std.proofs.lemmas.List.Filters.{sum_by-filter_both}
@@ -10,10 +10,8 @@ use Rattle.fc_base.specs.declared.command.Command.{Command}
 use Rattle.fc_base.specs.declared.command.Command.TheVariants.{Mkvdisk, Rmvdisk}
 use Rattle.fc_base.specs.declared.command.Unit.{Unit as SizeUnit}
 use Rattle.fc_base.specs.declared.decision.Decision.{Decision}
-use Rattle.fc_base.specs.declared.fault.Kind.TheVariants.{Vdisk}
 use Rattle.fc_base.specs.declared.fault.Refusal.{Refusal}
-use Rattle.fc_base.specs.declared.fault.Refusal.TheVariants.{Limit, NoDisk, BadValue}
-use Rattle.fc_base.specs.declared.fault.ValueOf.TheVariants.{Size}
+use Rattle.fc_base.specs.declared.fault.Refusal.TheVariants.{Limit}
 use Rattle.fc_base.specs.declared.ids.VolId.{VolId}
 use Rattle.fc_base.specs.declared.size.GrainSize.{GrainSize}
 use Rattle.fc_base.specs.declared.volume.Volume.{Volume}
@@ -21,10 +19,11 @@ use Rattle.fc_books.specs.After.{after_table_change}
 use Rattle.fc_books.specs.Books.{Books}
 use Rattle.fc_books.specs.Deciding.{after_decision, answered, decide, done, for_one, refused}
 use Rattle.fc_books.specs.Making.{new_volume, remove_volume}
-use Rattle.fc_books.specs.Refused.{mkvdisk_refused, name_taken}
+use Rattle.fc_books.specs.Refused.{mkvdisk_refused}
+use Rattle.fc_decided.proofs.Making.{volume_refusals}
 use Rattle.fc_decided.proofs.Unrefused.{none_of, none_where}
-use Rattle.fc_entry.specs.Refused.{all_grains, lacks_disk, where_}
-use Rattle.fc_entry.specs.Volumes.{kind_of, unit_bytes, volume_name}
+use Rattle.fc_entry.specs.Refused.{all_grains}
+use Rattle.fc_entry.specs.Volumes.{unit_bytes}
 use Rattle.law_volumes.proofs.Changes.{events_keep}
 use Rattle.law_volumes.proofs.Deeds.{decide_keeps}
 
@@ -54,13 +53,7 @@ new_room : (grain : GrainSize) (b : Books) (name : Option (List ℕ)) (size : �
     all_grains b.tables.volumes + (new_volume grain b name size unit thin).grains ≤ 8192
 new_room grain b name size unit thin e =
     let bytes = size * unit_bytes unit in
-    let none = none_of
-    (where_ ((bytes == 0) || not (bytes % grain_bytes grain == 0)) (BadValue Size)
-    ∷ where_ (nat_le 512 (length b.tables.volumes)) (Limit 512)
-    ∷ where_ (nat_lt 8192 (all_grains b.tables.volumes + bytes / grain_bytes grain)) (Limit 8192)
-    ∷ name_taken b Vdisk (volume_name name b.next_volume)
-    ∷ where_ (lacks_disk (kind_of thin) b.pools) NoDisk
-    ∷ []) e in
+    let none = none_of (volume_refusals grain b name size unit thin) e in
     within (all_grains b.tables.volumes + bytes / grain_bytes grain) (none_where (nat_lt 8192 (all_grains b.tables.volumes + bytes / grain_bytes grain)) (Limit 8192) none.1.1.0)
   where
     within : (n : ℕ) → nat_lt 8192 n ≡ false → n ≤ 8192

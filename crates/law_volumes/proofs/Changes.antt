@@ -1,5 +1,5 @@
 -- Changes that make and remove no volume, and what they leave.
-use Rattle.std.proofs.Common.{◌≡◌, ℕ, Bool, List, [], ◌∷◌, ◌++◌, map, fold, refl, ap, ◌∙◌}
+use Rattle.std.proofs.Common.{◌≡◌, ℕ, Bool, List, [], ◌∷◌, map, fold, refl, ap, ◌∙◌}
 use Rattle.std.specs.List.{flat_map}
 use Rattle.fc_base.specs.Tables.{Tables}
 use Rattle.fc_base.specs.declared.decision.LaneEvent.{LaneEvent}
@@ -7,6 +7,7 @@ use Rattle.fc_base.specs.declared.volume.Change.{Change}
 use Rattle.fc_base.specs.declared.volume.Change.TheVariants.{AddVolume, RemoveVolume, AddMapping, RemoveMapping, SetMapping, AddGroup, RemoveGroup}
 use Rattle.fc_books.specs.After.{after_table_change, after_event, after_all}
 use Rattle.fc_books.specs.Books.{Books}
+use Rattle.fc_legal.proofs.Each.{Each, each_append}
 
 -- It makes and removes no volume.
 abbrev pub IsApart : Change → Type 0
@@ -16,16 +17,11 @@ IsApart change = Unit {0}
 
 -- None of them does.
 abbrev pub AreApart : List Change → Type 0
-AreApart [] = Unit {0}
-AreApart (change ∷ changes) = IsApart change × AreApart changes
-
-pub append_apart : (xs ys : List Change) → AreApart xs → AreApart ys → AreApart (xs ++ ys)
-append_apart [] ys first second = second
-append_apart (x ∷ xs) ys first second = (first.0, append_apart xs ys first.1 second)
+AreApart changes = Each IsApart changes
 
 pub flat_map_apart : {X : Type 0} (f : X → List Change) (xs : List X) → ((x : X) → AreApart (f x)) → AreApart (flat_map f xs)
 flat_map_apart f [] each = tt
-flat_map_apart f (x ∷ xs) each = append_apart (f x) (flat_map f xs) (each x) (flat_map_apart f xs each)
+flat_map_apart f (x ∷ xs) each = each_append IsApart (f x) (flat_map f xs) (each x) (flat_map_apart f xs each)
 
 pub map_apart : {X : Type 0} (f : X → Change) (xs : List X) → ((x : X) → IsApart (f x)) → AreApart (map f xs)
 map_apart f [] each = tt

@@ -27,8 +27,9 @@ use Rattle.fc_books.specs.Making.{arm, new_mapping, make_mapping, remove_mapping
 use Rattle.fc_books.specs.Settling.{drops, finishes, settles_in, settling}
 use Rattle.fc_books.specs.Starting.{is_superseded, gives_way, supersedes, begins, prepare, triggers, start}
 use Rattle.fc_books.specs.Stopping.{stop_event, leave_event, stops_with, stop_dependents, stops_in, stops, stops_member, one_by_one, stop_group}
+use Rattle.fc_legal.proofs.Each.{each_append}
 use Rattle.law_volumes.specs.Law.{is_of_volumes, KeepsVolumes}
-use Rattle.law_volumes.proofs.Changes.{AreApart, append_apart, flat_map_apart, map_apart, volumes_keep}
+use Rattle.law_volumes.proofs.Changes.{IsApart, AreApart, flat_map_apart, map_apart, volumes_keep}
 
 -- The changes of a deed.
 pub record Spares (deed : Deed) : Type 0 where
@@ -40,7 +41,7 @@ nothing_spares : Spares nothing
 nothing_spares = record { apart = tt }
 
 then_spares : (first second : Deed) → Spares first → Spares second → Spares (first then second)
-then_spares first second one two = record { apart = append_apart first.changes second.changes one.apart two.apart }
+then_spares first second one two = record { apart = each_append IsApart first.changes second.changes one.apart two.apart }
 
 all_spare : {X : Type 0} (deed : X → Deed) (xs : List X) → ((x : X) → Spares (deed x)) → Spares (all_deeds deed xs)
 all_spare deed xs each = record { apart = flat_map_apart (λ x. (deed x).changes) xs (λ x. (each x).apart) }
@@ -167,7 +168,7 @@ start_spares prep restore t maps =
 
 remove_group_spares : (t : Tables) (g : Group) → Spares (remove_group t g.id)
 remove_group_spares t g =
-    record { apart = append_apart (map _ (members t g.id)) (_ ∷ []) (map_apart _ (members t g.id) (λ m. tt)) (tt, tt) }
+    record { apart = each_append IsApart (map _ (members t g.id)) (_ ∷ []) (map_apart _ (members t g.id) (λ m. tt)) (tt, tt) }
 
 done_spares : (grain : GrainSize) (b : Books) (command : Command) → is_of_volumes command ≡ false → Spares (done grain b command)
 done_spares grain b (Mkvdisk name size unit thin) other = absurd (true≢false other)

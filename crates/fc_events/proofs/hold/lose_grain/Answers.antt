@@ -1,12 +1,8 @@
-use Rattle.std.proofs.Common.{◌∙◌, sym, ap}
-use Rattle.fc_base.specs.SheetStep.{grain_lost}
 use Rattle.fc_events.proofs.Volumes.{turned_more, all_lost}
 use Rattle.fc_events.proofs.hold.lose_grain.Goals as goal
 
 pub loop-entry-preserved : goal.loop-entry-preserved
-loop-entry-preserved c =
-    turned_more (grain_lost c.args.volume c.args.grain) c.args.volume c.args.entries.now c.args.slots.now c.loop-entry.slots c.loop-entry.entry-index c.index-slots-entry.result c.lose.new.self
-    c.requires c.loop-entry-test.true c.index-slots-entry.is (c.lose.ensures ∙ ap (grain_lost c.args.volume c.args.grain) (sym c.index-slots-entry.is)) c.loop-entry.invariant
+loop-entry-preserved c = turned_more c.requires c.loop-entry-test.true c.index-slots-entry.is c.lose.ensures c.loop-entry.invariant
 
 pub returns : goal.returns
-returns c = all_lost c.args.volume c.args.grain c.args.entries.now c.args.slots.now c.loop-entry.slots c.loop-entry.entry-index c.requires c.loop-entry-test.false c.loop-entry.invariant
+returns c = all_lost c.args.volume c.args.grain c.requires c.loop-entry-test.false c.loop-entry.invariant

@@ -4,14 +4,14 @@ use Rattle.fc_base.specs.declared.request.Move.{Move}
 use Rattle.fc_lane.specs.Entering.{HasFilled}
 use Rattle.fc_lane.specs.Lane.{LaneView}
 use Rattle.fc_steps.specs.Plans.{room_of}
-use Rattle.fc_lane.proofs.FillLane.{CanFillHere, fill_can, fill_few, fill_fits, has_filled}
+use Rattle.fc_lane.proofs.FillLane.{CanFillHere, fill_can, fill_room, has_filled}
 use Rattle.fc_lane.proofs.lane.Lane.fill.Goals as goal
 
 pub room_for-made-requires-clause-room : goal.room_for-made-requires-clause-room
 room_for-made-requires-clause-room g c =
     let w = subst (λ (z : LaneView). CanFillHere z c.args.slot.0 c.args.grain.0 (c.args.grain.0 / c.self.inside.lanes)) (sym c.self.view_is)
     (record { can = c.requires.can; ready = c.requires.ready; place_is = ap (λ (z : LaneView). c.args.grain.0 / z.lanes) c.self.view_is }) in
-    fill_fits _ c.args.slot.0 c.args.grain.0 (c.args.grain.0 / c.self.inside.lanes) w c.as_slice-plan.result.now (c.as_slice-plan.ensures ∙ ap (λ (z : PlannedMoves). z.moves) c.plan.ensures)
+    (fill_room _ c.args.slot.0 c.args.grain.0 (c.args.grain.0 / c.self.inside.lanes) w c.as_slice-plan.result.now (c.as_slice-plan.ensures ∙ ap (λ (z : PlannedMoves). z.moves) c.plan.ensures)).entered
 
 pub make_moves-end-requires-clause-can : goal.make_moves-end-requires-clause-can
 make_moves-end-requires-clause-can g c =
@@ -23,7 +23,7 @@ pub make_moves-end-requires-clause-few : goal.make_moves-end-requires-clause-few
 make_moves-end-requires-clause-few g c =
     let w = subst (λ (z : LaneView). CanFillHere z c.args.slot.0 c.args.grain.0 (c.args.grain.0 / c.self.inside.lanes)) (sym c.self.view_is)
     (record { can = c.requires.can; ready = c.requires.ready; place_is = ap (λ (z : LaneView). c.args.grain.0 / z.lanes) c.self.view_is }) in
-    fill_few _ c.args.slot.0 c.args.grain.0 (c.args.grain.0 / c.self.inside.lanes) w c.as_slice-plan.result.now (c.as_slice-plan.ensures ∙ ap (λ (z : PlannedMoves). z.moves) c.plan.ensures)
+    (fill_room _ c.args.slot.0 c.args.grain.0 (c.args.grain.0 / c.self.inside.lanes) w c.as_slice-plan.result.now (c.as_slice-plan.ensures ∙ ap (λ (z : PlannedMoves). z.moves) c.plan.ensures)).few
 
 pub returns : goal.returns
 returns g c =

@@ -7,7 +7,7 @@ use Rattle.fc_steps.specs.Asking.{steps_entry}
 use Rattle.fc_lane.specs.Lane.{LaneView, of}
 use Rattle.fc_steps.specs.Plans.{room_of}
 use Rattle.fc_rules.specs.LaneFits.{FitsPart}
-use Rattle.fc_lane.proofs.WriteLane.{IsWritable, plan_few, plan_fits, plan_some, write_entered, write_planned}
+use Rattle.fc_lane.proofs.WriteLane.{IsWritable, plan_some, write_entered, write_planned, write_room}
 use Rattle.fc_lane.proofs.lane.Lane.write_grain.Goals as goal
 
 pub room_for-made-requires-clause-some : goal.room_for-made-requires-clause-some
@@ -20,7 +20,7 @@ pub room_for-made-requires-clause-room : goal.room_for-made-requires-clause-room
 room_for-made-requires-clause-room g c =
     let w = subst (λ (z : LaneView). IsWritable z c.args.part c.args.grain.0 c.args.place) (sym c.self.view_is)
     (record { can = c.requires.can; writable = c.requires.writable; ready = c.requires.ready; online = c.requires.online; number_is = c.requires.number; place_is = c.requires.place }) in
-    plan_fits _ c.args.part c.args.grain.0 c.args.place w c.as_slice-plan.result.now (c.as_slice-plan.ensures ∙ ap (λ (z : PlannedMoves). z.moves) c.plan.ensures)
+    (write_room _ c.args.part c.args.grain.0 c.args.place w c.as_slice-plan.result.now (c.as_slice-plan.ensures ∙ ap (λ (z : PlannedMoves). z.moves) c.plan.ensures)).entered
 
 pub write_all-end-requires-clause-can : goal.write_all-end-requires-clause-can
 write_all-end-requires-clause-can g c =
@@ -32,7 +32,7 @@ pub write_all-end-requires-clause-few : goal.write_all-end-requires-clause-few
 write_all-end-requires-clause-few g c =
     let w = subst (λ (z : LaneView). IsWritable z c.args.part c.args.grain.0 c.args.place) (sym c.self.view_is)
     (record { can = c.requires.can; writable = c.requires.writable; ready = c.requires.ready; online = c.requires.online; number_is = c.requires.number; place_is = c.requires.place }) in
-    plan_few _ c.args.part c.args.grain.0 c.args.place w c.as_slice-plan.result.now (c.as_slice-plan.ensures ∙ ap (λ (z : PlannedMoves). z.moves) c.plan.ensures)
+    (write_room _ c.args.part c.args.grain.0 c.args.place w c.as_slice-plan.result.now (c.as_slice-plan.ensures ∙ ap (λ (z : PlannedMoves). z.moves) c.plan.ensures)).few
 
 pub returns : goal.returns
 returns g c =
