@@ -7,8 +7,8 @@ pub record IsInside (bytes row : List ℕ) (before size : ℕ) : Type 0 where
   pub inside : before + length row ≤ size
 
 -- a row that was made, with a length below the half's, fits behind the gate
-pub behind_gate : {bytes made row : List ℕ} {len held room size : ℕ} → bytes ≡ made → made ≡ row → len ≡ held → length bytes ≡ held → room ≡ size → len < room
-    → IsInside bytes row 1 size
+pub behind_gate : {bytes made written : List ℕ} {len held room size : ℕ} → bytes ≡ made → made ≡ written → len ≡ held → length bytes ≡ held → room ≡ size → len < room
+    → IsInside bytes written 1 size
 behind_gate value told count long half fits = record {
   is = value ∙ told;
   inside = let e = ap length (value ∙ told) in omega (arith, e, count, long, half, fits);
