@@ -1,15 +1,13 @@
 //! A record is put into metadata.
 
-ghost use Rattle.std.specs.Prelude.{◌≡◌, ◌+◌, ◌∷◌, [], length, OnOk, OnErr, IsErrOf};
+ghost use Rattle.std.specs.Prelude.{◌≡◌, ◌+◌, ◌∷◌, [], IfErr, OnOk, IsErrOf};
 ghost use Rattle.fc_base.specs.Count.{HasRisen};
-ghost use Rattle.fc_format.specs.Bytes.{half_bytes};
 ghost use Rattle.fc_format.specs.Halves.{Image};
 ghost use Rattle.fc_format.specs.Ranges.{HasGoodIds};
 ghost use Rattle.fc_image.specs.declared.image.MetaImage.{MetaImage as Said};
-ghost use Rattle.fc_marks.specs.Meter.{IsCalledUpTo, IsCalledWithin, IsMetered, IsPut, Meter, with_record};
-ghost use Rattle.fc_marks.specs.Room.{LeavesNoRoom};
-ghost use Rattle.fc_meta.specs.Answers.{LeavesEither, PassesHalf, found_with, more_calls};
-ghost use Rattle.fc_meta.specs.States.{IsResting, disk_of, found, generation_of, room_of, used_of};
+ghost use Rattle.fc_marks.specs.Meter.{IsCutShort, IsMetered, IsPut, Meter, with_fold, with_record};
+ghost use Rattle.fc_meta.specs.Answers.{LeavesEither, found_with, more_calls};
+ghost use Rattle.fc_meta.specs.States.{IsResting, disk_of, found, room_of};
 ghost use Rattle.fc_metadisk.specs.Disk.{LeavesOnly};
 
 use crate::error::NotedStop;
@@ -26,19 +24,19 @@ fn fold_same<M: MetaDisk>(alloc: Global, meta: &mut Meta<M>) -> Result<(), Noted
     requires ids { (image : Said) → found M.seen meta.old ≡ Image image → HasGoodIds image }
     ensures rests { OnOk result (IsResting M.seen M.may_leave meta.new) }
     ensures found { OnOk result (found M.seen meta.new ≡ found M.seen meta.old) }
-    ensures used { OnOk result ((image : Said) → found M.seen meta.old ≡ Image image →
-        used_of meta.new ≡ length (half_bytes (generation_of meta.old + 1) image)) }
+    ensures metered { OnOk result ((m : Meter) → IsMetered M.seen meta.old m →
+        IsMetered M.seen meta.new (with_fold (room_of M.seen meta.old) m.image m)) }
     ensures room { room_of M.seen meta.new ≡ room_of M.seen meta.old }
     ensures any_moment { LeavesOnly M.moment M.left_since (disk_of meta.old) (disk_of meta.new)
         (LeavesEither (found M.seen meta.old) (found M.seen meta.old)) }
     ensures quiet { OnOk result (M.fault_count (disk_of meta.new) ≡ M.fault_count (disk_of meta.old)) }
     ensures failed { IsErrOf result NotedStop.MetaFailed →
         HasRisen (M.fault_count (disk_of meta.old)) (M.fault_count (disk_of meta.new)) }
-    ensures full { IsErrOf result NotedStop.MetaFull → (image : Said) → found M.seen meta.old ≡ Image image →
-        PassesHalf (generation_of meta.old) image (room_of M.seen meta.old) }
+    ensures unfailed { IsErrOf result NotedStop.MetaFull → M.fault_count (disk_of meta.new) ≡ M.fault_count (disk_of meta.old) }
     ensures not_log { IsErrOf result NotedStop.LogFull → ⊥ }
     ensures counted { OnOk result (M.calls (disk_of meta.new) ≡ more_calls 6 (M.calls (disk_of meta.old))) }
-    ensures within { OnErr result (IsCalledUpTo 6 (M.calls (disk_of meta.old)) (M.calls (disk_of meta.new))) }
+    ensures short { IfErr result (λ stop.
+        IsCutShort M.seen M.calls stop meta.old meta.new (λ m. with_fold (room_of M.seen meta.old) m.image m)) }
 {
     let image = meta.image(alloc)?;
     meta.fold(alloc, &image)?;
@@ -58,7 +56,8 @@ pub fn calls_to_put<M: MetaDisk>(meta: &Meta<M>, note: MetaRecord) -> u64
 /// A crash leaves what stood before, or that with the record. It makes as many calls of the disk as the record costs, and behind an error
 /// at most so many.
 ///
-/// MetaFull where the image doesn't fit a half, or leaves no room in it for the batch.
+/// MetaFull exactly where the image doesn't fit a half, or leaves no room in it for the batch: behind the two calls of a fold that close
+/// the gate of the other half, or behind the whole fold. MetaFailed where a call failed before that was seen.
 pub fn put_record<M: MetaDisk>(
     alloc: Global,
     meta: &mut Meta<M>,
@@ -73,13 +72,12 @@ pub fn put_record<M: MetaDisk>(
     ensures quiet { OnOk result (M.fault_count (disk_of meta.new) ≡ M.fault_count (disk_of meta.old)) }
     ensures failed { IsErrOf result NotedStop.MetaFailed →
         HasRisen (M.fault_count (disk_of meta.old)) (M.fault_count (disk_of meta.new)) }
-    ensures full { IsErrOf result NotedStop.MetaFull → (image : Said) → found M.seen meta.old ≡ Image image →
-        LeavesNoRoom (generation_of meta.old) image note (room_of M.seen meta.old) }
+    ensures unfailed { IsErrOf result NotedStop.MetaFull → M.fault_count (disk_of meta.new) ≡ M.fault_count (disk_of meta.old) }
     ensures not_log { IsErrOf result NotedStop.LogFull → ⊥ }
     ensures room { room_of M.seen meta.new ≡ room_of M.seen meta.old }
     ensures put { OnOk result (IsPut M.seen M.calls note meta.old meta.new) }
-    ensures within { OnErr result
-        (IsCalledWithin M.seen M.calls meta.old meta.new (with_record (room_of M.seen meta.old) note)) }
+    ensures short { IfErr result (λ stop.
+        IsCutShort M.seen M.calls stop meta.old meta.new (with_record (room_of M.seen meta.old) note)) }
 {
     let records = [note];
     if meta.fits(&records) {

@@ -6,7 +6,7 @@ ghost use Rattle.fc_format.specs.Bytes.{batch_bytes, half_bytes};
 ghost use Rattle.fc_format.specs.Ranges.{HasGoodIds};
 ghost use Rattle.fc_format.specs.Halves.{Image};
 ghost use Rattle.fc_meta.specs.declared.series.Call.TheVariants.{Note};
-ghost use Rattle.fc_meta.specs.Answers.{found_with, PassesHalf, more_calls};
+ghost use Rattle.fc_meta.specs.Answers.{IsStopped, found_with, PassesHalf, more_calls};
 ghost use Rattle.fc_meta.specs.States.{disk_of, head_of, head_with, head_turned, generation_of, used_of, room_of, found, IsResting};
 ghost use Rattle.fc_meta.specs.Order.{HasNoRoom};
 ghost use Rattle.fc_meta.specs.DiskCalls.{clear_calls, put_calls, fold_calls};
@@ -62,6 +62,9 @@ impl<M: MetaDisk> Meta<M> {
             (M.calls (disk_of self.new) ≡ more_calls 2 (M.calls (disk_of self.old))))) }
         ensures room { OnOk result
             (PassesHalf (generation_of self.old) image.now (room_of M.seen self.old) → ⊥) }
+        ensures short { IsErrOf result MetaError.Failed →
+            PassesHalf (generation_of self.old) image.now (room_of M.seen self.old) →
+            IsStopped 2 (M.calls (disk_of self.old)) (M.calls (disk_of self.new)) }
         ensures treats { TreatsDisk M.seen M.moment M.left_since M.fault_count M.calls M.leads
             (Image image.now) (fold_calls M.seen self.old image.now) self.old self.new result }
         ensures begun { OnErr result (IsErrOf result MetaError.Failed ⊎

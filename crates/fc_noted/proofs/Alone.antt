@@ -97,7 +97,7 @@ along_still grain w place k k' old new ds a still =
       others = λ i g il ne v y whole. inl (whole, refl, refl);
     }
 
-module _ {C D : Type 0} (seen : D → List ℕ) (may_leave : D → List ℕ → Type 0) (moment : D → ℕ) (left_since : D → ℕ → List ℕ → Type 0) (counts_now : (disk : D) (t : ℕ) (c : List ℕ) → t ≤ moment disk → may_leave disk c → left_since disk t c)
+module _ {C D : Type 0} (seen : D → List ℕ) (may_leave : D → List ℕ → Type 0) (moment : D → ℕ) (left_since : D → ℕ → List ℕ → Type 0) (disk_calls : D → ℕ) (counts_now : (disk : D) (t : ℕ) (c : List ℕ) → t ≤ moment disk → may_leave disk c → left_since disk t c)
     (n : Noted C D) (way : UnderWay) (m : Move) (none : way.due ≡ None) (live : n.live ≡ true) (next : next_of way.doing.steps ≡ NextMove m)
     (copies : copies_nothing (lane_in n.store way.place) way.doing.steps.place m ≡ true)
     (meta : Meta D) (calls : ℕ) (counted : (m' : Meter) → IsMetered seen n.meta m' → n.calls ≡ more_calls m'.calls 0 → calls ≡ more_calls (with_record (room_of seen n.meta) (uncopied m) m').calls 0)
@@ -247,22 +247,22 @@ module _ {C D : Type 0} (seen : D → List ℕ) (may_leave : D → List ℕ → 
 
   pub alone_made : (end : StepEnd) (doing : Doing) (store : StoreView) (step : IsStepOf way.doing (lane_in n.store way.place) end doing (lane_in store way.place)) (is : IsInLane way.place n.store store) → IsResting seen may_leave meta →
       found seen meta ≡ found_with (found seen n.meta) (uncopied m ∷ []) → room_of seen meta ≡ room_of seen n.meta → Puts → (history : HistoryState) →
-      WayMade seen may_leave moment left_since done n way (record n { store = store; meta = meta; calls = calls; under_way = Some (record { place = way.place; doing = doing; due = None }) }) history history
+      WayMade seen may_leave moment left_since disk_calls done n way (record n { store = store; meta = meta; calls = calls; under_way = Some (record { place = way.place; doing = doing; due = None }) }) history history
   alone_made end doing store step is rests says size metered =
       let next_way : UnderWay = record { place = way.place; doing = doing; due = None } in
-      way_goes seen may_leave moment left_since n (record n { store = store; meta = meta; calls = calls; under_way = Some next_way }) way (λ history w least d. alone_leaves history w least d end doing store step is) next_way live
+      way_goes seen may_leave moment left_since disk_calls n (record n { store = store; meta = meta; calls = calls; under_way = Some next_way }) way (λ history w least d. alone_leaves history w least d end doing store step is) next_way live
       (ap (λ (s : StoreView). s.control.grain) is) refl refl (λ history w least d. alone_doing history w least d end doing store step is rests says size metered)
 
   -- by the noted store behind the record
   pub alone_made_by : (mid : Noted C D) → mid ≡ record n { meta = meta; calls = calls } → (end : StepEnd) (doing : Doing) (store : StoreView) → IsStepOf way.doing (lane_in mid.store way.place) end doing (lane_in store way.place) →
       IsInLane way.place mid.store store → IsResting seen may_leave meta → found seen meta ≡ found_with (found seen n.meta) (uncopied m ∷ []) → room_of seen meta ≡ room_of seen n.meta → Puts → (history : HistoryState) →
-      WayMade seen may_leave moment left_since done n way (record mid { store = store; under_way = Some (record { place = way.place; doing = doing; due = None }) }) history history
+      WayMade seen may_leave moment left_since disk_calls done n way (record mid { store = store; under_way = Some (record { place = way.place; doing = doing; due = None }) }) history history
   alone_made_by mid e end doing store step is rests says size metered history =
       let Makes : Noted C D → Type 0 = λ (z : Noted C D).
       IsStepOf way.doing (lane_in z.store way.place) end doing (lane_in store way.place) → IsInLane way.place z.store store →
-      WayMade seen may_leave moment left_since done n way (record z { store = store; under_way = Some (record { place = way.place; doing = doing; due = None }) }) history history in
+      WayMade seen may_leave moment left_since disk_calls done n way (record z { store = store; under_way = Some (record { place = way.place; doing = doing; due = None }) }) history history in
       subst Makes (sym e) (λ step' is'. alone_made end doing store step' is' rests says size metered history) step is
 
   pub alone_failed : (result : Result (Unit {0}) NotedStop) (given stop : NotedStop) → result ≡ Err given → given ≡ stop → (stop ≡ LogFull → ⊥) → (history : HistoryState) →
-      WayMade seen may_leave moment left_since result n way left history history
-  alone_failed result given stop e same other = way_stops seen may_leave moment left_since n left way failed_leaves result given stop e same other alone_stops (λ history w least d is. alone_into history w least d)
+      WayMade seen may_leave moment left_since disk_calls result n way left history history
+  alone_failed result given stop e same other = way_stops seen may_leave moment left_since disk_calls n left way failed_leaves result given stop e same other alone_stops (λ history w least d is. alone_into history w least d)

@@ -186,7 +186,7 @@ module _ {C D : Type 0} (seen : D → List ℕ) (may_leave : D → List ℕ → 
           }
 
 -- what that makes of a noted store in which room was made
-module _ {C D : Type 0} (seen : D → List ℕ) (may_leave : D → List ℕ → Type 0) (moment : D → ℕ) (left_since : D → ℕ → List ℕ → Type 0) (only_now : (disk : D) (c : List ℕ) → left_since disk (moment disk) c → may_leave disk c)
+module _ {C D : Type 0} (seen : D → List ℕ) (may_leave : D → List ℕ → Type 0) (moment : D → ℕ) (left_since : D → ℕ → List ℕ → Type 0) (disk_calls : D → ℕ) (only_now : (disk : D) (c : List ℕ) → left_since disk (moment disk) c → may_leave disk c)
     (old : Noted C D) (history : HistoryState) (begins : CanBegin seen may_leave old history) (roomy : StoreView) (kept : IsRoomier old.store roomy) where
   abbrev n : Noted C D
   n = record old { store = roomy }
@@ -211,7 +211,7 @@ module _ {C D : Type 0} (seen : D → List ℕ) (may_leave : D → List ℕ → 
 
   -- ---- it stopped there
 
-  pub stopped_made : (stop : NotedStop) → (stop ≡ LogFull → 262144 ≤ length history.entries) → (stop ≡ MetaFailed → ⊥) → StepMade seen may_leave moment left_since (Err stop) old (record old { store = roomy }) history history
+  pub stopped_made : (stop : NotedStop) → (stop ≡ LogFull → 262144 ≤ length history.entries) → (stop ≡ MetaFailed → ⊥) → StepMade seen may_leave moment left_since disk_calls (Err stop) old (record old { store = roomy }) history history
   stopped_made stop full never =
       record {
         on = tt;
@@ -249,7 +249,7 @@ module _ {C D : Type 0} (seen : D → List ℕ) (may_leave : D → List ℕ → 
         (subst (λ c. Asks c.grain (agenda_of c.grain old.script) w (0, request_of ask)) (sym kept.control) (asks w told))
         (subst (λ c. IsInVolume c.grain w (request_of ask)) (sym kept.control) (in_volume w told))
 
-    pub begun_made : StepMade seen may_leave moment left_since (Ok true) old behind history history
+    pub begun_made : StepMade seen may_leave moment left_since disk_calls (Ok true) old behind history history
     unfolding doing_at begun_doing
     begun_made =
         record {

@@ -38,9 +38,9 @@ pub keep_lanes : (old new : StoreView) → EachLane IsSameLane old.lanes new.lan
 keep_lanes old new same = record { count = same.count; each = λ i d il. ((same.each i d il).grain, (same.each i d il).disks) }
 
 -- the history is full
-module _ {C D : Type 0} (seen : D → List ℕ) (may_leave : D → List ℕ → Type 0) (moment : D → ℕ) (left_since : D → ℕ → List ℕ → Type 0) (only_now : (disk : D) (c : List ℕ) → left_since disk (moment disk) c → may_leave disk c)
+module _ {C D : Type 0} (seen : D → List ℕ) (may_leave : D → List ℕ → Type 0) (moment : D → ℕ) (left_since : D → ℕ → List ℕ → Type 0) (disk_calls : D → ℕ) (only_now : (disk : D) (c : List ℕ) → left_since disk (moment disk) c → may_leave disk c)
     (old : Noted C D) (before : HistoryState) (idle : old.under_way ≡ None) (room : length before.entries ≤ 262144) where
-  pub full_made : 262144 ≤ length before.entries → StepMade seen may_leave moment left_since (Err LogFull) old old before before
+  pub full_made : 262144 ≤ length before.entries → StepMade seen may_leave moment left_since disk_calls (Err LogFull) old old before before
   full_made full =
       record {
         on = tt;
@@ -59,7 +59,7 @@ module _ {C D : Type 0} (seen : D → List ℕ) (may_leave : D → List ℕ → 
       }
 
 -- the command isn't done, or it is and its entry is there
-module _ {C D : Type 0} (seen : D → List ℕ) (may_leave : D → List ℕ → Type 0) (moment : D → ℕ) (left_since : D → ℕ → List ℕ → Type 0) (old mid : Noted C D) (before : HistoryState) (idle : old.under_way ≡ None) (room : length before.entries < 262144)
+module _ {C D : Type 0} (seen : D → List ℕ) (may_leave : D → List ℕ → Type 0) (moment : D → ℕ) (left_since : D → ℕ → List ℕ → Type 0) (disk_calls : D → ℕ) (old mid : Noted C D) (before : HistoryState) (idle : old.under_way ≡ None) (room : length before.entries < 262144)
     (any_moment : (history : HistoryState) (w : Whole) (least : List Row) → length history.entries < 262144 → IsNotedAt seen may_leave old history w least →
     LeavesOnly moment left_since old.meta.disk mid.meta.disk (LeavesRecoverable old mid w least))
     (stopped : (history : HistoryState) (w : Whole) (least : List Row) → length history.entries < 262144 → IsNotedAt seen may_leave old history w least → HasStopped may_leave old mid w least) where
@@ -68,7 +68,7 @@ module _ {C D : Type 0} (seen : D → List ℕ) (may_leave : D → List ℕ → 
 
   pub undone_made : (stop : NotedStop) → (stop ≡ LogFull → ⊥) →
       (stop ≡ MetaFailed → (history : HistoryState) (w : Whole) (least : List Row) → length history.entries < 262144 → IsNotedAt seen may_leave old history w least → CountsInto seen old mid history w) →
-      StepMade seen may_leave moment left_since (Err stop) old mid before before
+      StepMade seen may_leave moment left_since disk_calls (Err stop) old mid before before
   undone_made stop other into =
       record {
         on = tt;
@@ -88,7 +88,7 @@ module _ {C D : Type 0} (seen : D → List ℕ) (may_leave : D → List ℕ → 
         let s = stopped before w least room (rest w least at) in
         record { volumes = s.volumes; counted = s.counted; leaves = s.leaves }
 
-    unlogged : StepMade seen may_leave moment left_since (Err WantsMemory) old (record mid { script = script }) before before
+    unlogged : StepMade seen may_leave moment left_since disk_calls (Err WantsMemory) old (record mid { script = script }) before before
     unlogged =
         record {
           on = tt;
@@ -178,7 +178,7 @@ module _ {C D : Type 0} (seen : D → List ℕ) (may_leave : D → List ℕ → 
             }
 
       logged : GoesBehind mid.store.control.grain (StandsFor mid.store) mid.script (record entry { number = length before.entries }) script →
-          StepMade seen may_leave moment left_since (Ok true) old new before after
+          StepMade seen may_leave moment left_since disk_calls (Ok true) old new before after
       logged goes =
           record {
             on = λ w least at. inr (logs w least (rest w least at) goes);
@@ -190,24 +190,24 @@ module _ {C D : Type 0} (seen : D → List ℕ) (may_leave : D → List ℕ → 
 
       by_result : (result : Result (Unit {0}) NotedStop) (later : HistoryState) → OnOk result (later ≡ record before { entries = before.entries ++ (record entry { number = length before.entries }) ∷ [] }) →
           OnOk result (GoesBehind mid.store.control.grain (StandsFor mid.store) mid.script (record entry { number = length before.entries }) script) → OnErr result (later ≡ before) → IfErr result (λ stop. stop ≡ WantsMemory) →
-          StepMade seen may_leave moment left_since (always result) old new before later
-      by_result (Ok none) later pushed goes same wanted = subst (λ (z : HistoryState). StepMade seen may_leave moment left_since (Ok true) old new before z) (sym pushed) (logged goes)
+          StepMade seen may_leave moment left_since disk_calls (always result) old new before later
+      by_result (Ok none) later pushed goes same wanted = subst (λ (z : HistoryState). StepMade seen may_leave moment left_since disk_calls (Ok true) old new before z) (sym pushed) (logged goes)
       by_result (Err stop) later pushed goes same wanted =
-          subst (λ (z : HistoryState). StepMade seen may_leave moment left_since (Err stop) old new before z) (sym same)
-          (subst (λ (z : NotedStop). StepMade seen may_leave moment left_since (Err z) old new before before) (sym wanted) unlogged)
+          subst (λ (z : HistoryState). StepMade seen may_leave moment left_since disk_calls (Err stop) old new before z) (sym same)
+          (subst (λ (z : NotedStop). StepMade seen may_leave moment left_since disk_calls (Err z) old new before before) (sym wanted) unlogged)
 
       command_made : (behind : Noted C D) → behind ≡ record mid { script = script } → (result : Result (Unit {0}) NotedStop) (later : HistoryState) →
           OnOk result (later ≡ record before { entries = before.entries ++ (record entry { number = length before.entries }) ∷ [] }) →
           OnOk result (GoesBehind mid.store.control.grain (StandsFor mid.store) mid.script (record entry { number = length before.entries }) script) → OnErr result (later ≡ before) → IfErr result (λ stop. stop ≡ WantsMemory) →
-          StepMade seen may_leave moment left_since (always result) old behind before later
+          StepMade seen may_leave moment left_since disk_calls (always result) old behind before later
       command_made behind others result later pushed goes same wanted =
-          subst (λ (z : Noted C D). StepMade seen may_leave moment left_since (always result) old z before later) (sym others) (by_result result later pushed goes same wanted)
+          subst (λ (z : Noted C D). StepMade seen may_leave moment left_since disk_calls (always result) old z before later) (sym others) (by_result result later pushed goes same wanted)
 
       -- by its number
       pub command_numbered : (n : ℕ) → n ≡ length before.entries → (behind : Noted C D) → behind ≡ record mid { script = script } → (result : Result (Unit {0}) NotedStop) (later : HistoryState) →
           OnOk result (later ≡ record before { entries = before.entries ++ (record entry { number = n }) ∷ [] }) →
           OnOk result (GoesBehind mid.store.control.grain (StandsFor mid.store) mid.script (record entry { number = n }) script) → OnErr result (later ≡ before) → IfErr result (λ stop. stop ≡ WantsMemory) →
-          StepMade seen may_leave moment left_since (always result) old behind before later
+          StepMade seen may_leave moment left_since disk_calls (always result) old behind before later
       command_numbered n is behind others result later pushed goes same wanted =
           command_made behind others result later (subst (λ (k : ℕ). OnOk result (later ≡ record before { entries = before.entries ++ (record entry { number = k }) ∷ [] })) is pushed)
           (subst (λ (k : ℕ). OnOk result (GoesBehind mid.store.control.grain (StandsFor mid.store) mid.script (record entry { number = k }) script)) is goes) same wanted

@@ -221,7 +221,7 @@ module _ {C D : Type 0} (seen : D → List ℕ) (may_leave : D → List ℕ → 
         (ap (λ (x : Doing). x.number) step.after) (ap (λ (x : Doing). x.actor) step.after) ask_is stepped.in_hand stepped.along counted
 
 -- what a step of data makes of a noted store
-module _ {C D : Type 0} (seen : D → List ℕ) (may_leave : D → List ℕ → Type 0) (moment : D → ℕ) (left_since : D → ℕ → List ℕ → Type 0) (only_now : (disk : D) (c : List ℕ) → left_since disk (moment disk) c → may_leave disk c)
+module _ {C D : Type 0} (seen : D → List ℕ) (may_leave : D → List ℕ → Type 0) (moment : D → ℕ) (left_since : D → ℕ → List ℕ → Type 0) (disk_calls : D → ℕ) (only_now : (disk : D) (c : List ℕ) → left_since disk (moment disk) c → may_leave disk c)
     (n : Noted C D) (way : UnderWay) (none : way.due ≡ None) (live : n.live ≡ true) (end : StepEnd) (doing : Doing) (store : StoreView)
     (step : IsStepOf way.doing (lane_in n.store way.place) end doing (lane_in store way.place)) (is : IsInLane way.place n.store store)
     (next : next_of way.doing.steps ≢ Over) (marked : IsMarkedNext n way) (copies : CopiesNext n way) where
@@ -245,12 +245,12 @@ module _ {C D : Type 0} (seen : D → List ℕ) (may_leave : D → List ℕ → 
       (hold_either n.store store n.script n.named w least d.keeps.image (ap (λ (s : StoreView). s.control.grain) is) (doing_found seen may_leave old way history w least d)
       (doing_found seen may_leave behind way_behind history w least (goes_behind history w least d)))
 
-  pub data_made : (history : HistoryState) → WayMade seen may_leave moment left_since done n way behind history history
-  data_made = way_goes seen may_leave moment left_since n behind way leaves_behind way_behind live (ap (λ (s : StoreView). s.control.grain) is) refl refl goes_behind
+  pub data_made : (history : HistoryState) → WayMade seen may_leave moment left_since disk_calls done n way behind history history
+  data_made = way_goes seen may_leave moment left_since disk_calls n behind way leaves_behind way_behind live (ap (λ (s : StoreView). s.control.grain) is) refl refl goes_behind
 
   -- with the record that is said to be due
   pub data_made_by : (due : Option MetaRecord) → due ≡ record_after (next_of way.doing.steps) end way.doing.steps.grain → (history : HistoryState) →
-      WayMade seen may_leave moment left_since done n way (record n { store = store; under_way = Some (record { place = way.place; doing = doing; due = due }) }) history history
+      WayMade seen may_leave moment left_since disk_calls done n way (record n { store = store; under_way = Some (record { place = way.place; doing = doing; due = due }) }) history history
   data_made_by due e history =
-      subst (λ (o : Option MetaRecord). WayMade seen may_leave moment left_since done n way (record n { store = store; under_way = Some (record { place = way.place; doing = doing; due = o }) }) history history) (sym e)
+      subst (λ (o : Option MetaRecord). WayMade seen may_leave moment left_since disk_calls done n way (record n { store = store; under_way = Some (record { place = way.place; doing = doing; due = o }) }) history history) (sym e)
       (data_made history)

@@ -39,7 +39,7 @@ use Rattle.law_noted.specs.Came.{steps_done}
 use Rattle.law_noted.specs.DataSteps.{IsInHand}
 use Rattle.law_noted.specs.Records.{kept_by}
 
-module _ {C D : Type 0} (seen : D → List ℕ) (may_leave : D → List ℕ → Type 0) (moment : D → ℕ) (left_since : D → ℕ → List ℕ → Type 0) (counts_now : (disk : D) (t : ℕ) (c : List ℕ) → t ≤ moment disk → may_leave disk c → left_since disk t c)
+module _ {C D : Type 0} (seen : D → List ℕ) (may_leave : D → List ℕ → Type 0) (moment : D → ℕ) (left_since : D → ℕ → List ℕ → Type 0) (disk_calls : D → ℕ) (counts_now : (disk : D) (t : ℕ) (c : List ℕ) → t ≤ moment disk → may_leave disk c → left_since disk t c)
     (n : Noted C D) (way : UnderWay) (x : MetaRecord) (due : way.due ≡ Some x) (live : n.live ≡ true) (meta : Meta D) (calls : ℕ)
     (counted : (m : Meter) → IsMetered seen n.meta m → n.calls ≡ more_calls m.calls 0 → calls ≡ more_calls (with_record (room_of seen n.meta) x m).calls 0)
     (run : LeavesOnly moment left_since n.meta.disk meta.disk (LeavesEither (found seen n.meta) (found_with (found seen n.meta) (x ∷ [])))) where
@@ -102,11 +102,11 @@ module _ {C D : Type 0} (seen : D → List ℕ) (may_leave : D → List ℕ → 
     due_into = goes_into_record seen may_leave old left way history w least d x (steps_done way.doing.steps) way.doing.steps.stop None acted.so_far counted
 
   pub due_made : IsResting seen may_leave meta → found seen meta ≡ found_with (found seen n.meta) (x ∷ []) → room_of seen meta ≡ room_of seen n.meta → Puts → (history : HistoryState) →
-      WayMade seen may_leave moment left_since done n way new history history
+      WayMade seen may_leave moment left_since disk_calls done n way new history history
   due_made rests says size metered =
-      way_goes seen may_leave moment left_since n new way (λ history w least d. due_leaves history w least d (Some way_new)) way_new live refl refl refl (λ history w least d. due_doing history w least d rests says size metered)
+      way_goes seen may_leave moment left_since disk_calls n new way (λ history w least d. due_leaves history w least d (Some way_new)) way_new live refl refl refl (λ history w least d. due_doing history w least d rests says size metered)
 
   pub due_failed : (result : Result (Unit {0}) NotedStop) (given stop : NotedStop) → result ≡ Err given → given ≡ stop → (stop ≡ LogFull → ⊥) → (history : HistoryState) →
-      WayMade seen may_leave moment left_since result n way left history history
+      WayMade seen may_leave moment left_since disk_calls result n way left history history
   due_failed result given stop e same other =
-      way_stops seen may_leave moment left_since n left way (λ history w least d. due_leaves history w least d n.under_way) result given stop e same other due_stops (λ history w least d is. due_into history w least d)
+      way_stops seen may_leave moment left_since disk_calls n left way (λ history w least d. due_leaves history w least d n.under_way) result given stop e same other due_stops (λ history w least d is. due_into history w least d)

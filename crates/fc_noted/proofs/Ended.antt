@@ -276,13 +276,13 @@ module _ {C D : Type 0} (seen : D → List ℕ) (may_leave : D → List ℕ → 
 
   -- ---- what that makes of the noted store
 
-  module _ (moment : D → ℕ) (left_since : D → ℕ → List ℕ → Type 0) (only_now : (disk : D) (c : List ℕ) → left_since disk (moment disk) c → may_leave disk c) (live : n.live ≡ true) (taken : n.under_way ≡ None) (marks : Vec Mark Global)
+  module _ (moment : D → ℕ) (left_since : D → ℕ → List ℕ → Type 0) (disk_calls : D → ℕ) (only_now : (disk : D) (c : List ℕ) → left_since disk (moment disk) c → may_leave disk c) (live : n.live ≡ true) (taken : n.under_way ≡ None) (marks : Vec Mark Global)
       (marks_are : marks.items ≡ marks_left (volume_noted way.doing.steps) way.doing.steps.grain n.marks.items) (script : Script) where
     abbrev behind : Noted C D
     behind = record n { store = store; marks = marks; script = script }
 
     logged : (history : HistoryState) → GoesBehind store.control.grain (StandsFor store) n.script entry script →
-        WayMade seen may_leave moment left_since (Ok tt) n way behind history (record history { entries = history.entries ++ entry ∷ [] })
+        WayMade seen may_leave moment left_since disk_calls (Ok tt) n way behind history (record history { entries = history.entries ++ entry ∷ [] })
     logged history goes =
         record {
           on = λ w least d.
@@ -293,7 +293,7 @@ module _ {C D : Type 0} (seen : D → List ℕ) (may_leave : D → List ℕ → 
           into = λ f. absurd cc;
         }
 
-    unlogged : (history : HistoryState) → WayMade seen may_leave moment left_since (Err WantsMemory) n way behind history history
+    unlogged : (history : HistoryState) → WayMade seen may_leave moment left_since disk_calls (Err WantsMemory) n way behind history history
     unlogged history =
         record {
           on = tt;
@@ -305,16 +305,16 @@ module _ {C D : Type 0} (seen : D → List ℕ) (may_leave : D → List ℕ → 
 
     by_result : (result : Result (Unit {0}) NotedStop) (history later : HistoryState) → OnOk result (later ≡ record history { entries = history.entries ++ entry ∷ [] }) →
         OnOk result (GoesBehind store.control.grain (StandsFor store) n.script entry script) → OnErr result (later ≡ history) → IfErr result (λ stop. stop ≡ WantsMemory) →
-        WayMade seen may_leave moment left_since result n way behind history later
-    by_result (Ok u) history later pushed goes same stop = subst (λ (z : HistoryState). WayMade seen may_leave moment left_since (Ok tt) n way behind history z) (sym pushed) (logged history goes)
+        WayMade seen may_leave moment left_since disk_calls result n way behind history later
+    by_result (Ok u) history later pushed goes same stop = subst (λ (z : HistoryState). WayMade seen may_leave moment left_since disk_calls (Ok tt) n way behind history z) (sym pushed) (logged history goes)
     by_result (Err s) history later pushed goes same stop =
-        subst (λ (z : HistoryState). WayMade seen may_leave moment left_since (Err s) n way behind history z) (sym same)
-        (subst (λ (z : NotedStop). WayMade seen may_leave moment left_since (Err z) n way behind history history) (sym stop) (unlogged history))
+        subst (λ (z : HistoryState). WayMade seen may_leave moment left_since disk_calls (Err s) n way behind history z) (sym same)
+        (subst (λ (z : NotedStop). WayMade seen may_leave moment left_since disk_calls (Err z) n way behind history history) (sym stop) (unlogged history))
 
-  pub finish_made : (moment : D → ℕ) (left_since : D → ℕ → List ℕ → Type 0) (only_now : (disk : D) (c : List ℕ) → left_since disk (moment disk) c → may_leave disk c) → n.live ≡ true → n.under_way ≡ None → (marks : Vec Mark Global) →
+  pub finish_made : (moment : D → ℕ) (left_since : D → ℕ → List ℕ → Type 0) (disk_calls : D → ℕ) (only_now : (disk : D) (c : List ℕ) → left_since disk (moment disk) c → may_leave disk c) → n.live ≡ true → n.under_way ≡ None → (marks : Vec Mark Global) →
       marks.items ≡ marks_left (volume_noted way.doing.steps) way.doing.steps.grain n.marks.items → (new : Noted C D) → new ≡ record n { store = store; marks = marks; script = new.script } → (result : Result (Unit {0}) NotedStop) (history after : HistoryState) →
       OnOk result (after ≡ record history { entries = history.entries ++ entry ∷ [] }) → OnOk result (GoesBehind store.control.grain (StandsFor store) n.script entry new.script) → OnErr result (after ≡ history) → IfErr result (λ stop. stop ≡ WantsMemory) →
-      WayMade seen may_leave moment left_since result n way new history after
-  finish_made moment left_since only_now live taken marks marks_are new others result history after pushed goes same stop =
-      subst (λ (z : Noted C D). WayMade seen may_leave moment left_since result n way z history after) (sym others)
-      (by_result moment left_since only_now live taken marks marks_are new.script result history after pushed goes same stop)
+      WayMade seen may_leave moment left_since disk_calls result n way new history after
+  finish_made moment left_since disk_calls only_now live taken marks marks_are new others result history after pushed goes same stop =
+      subst (λ (z : Noted C D). WayMade seen may_leave moment left_since disk_calls result n way z history after) (sym others)
+      (by_result moment left_since disk_calls only_now live taken marks marks_are new.script result history after pushed goes same stop)

@@ -160,7 +160,7 @@ module _ {C D : Type 0} (seen : D → List ℕ) (may_leave : D → List ℕ → 
     left_else stop other m least at size same =
         let p = costs_by mid.under_way mid between m least at in (p.0, paid_there m p.0 p.1 size same, λ failed. absurd (other failed))
 
-    left_by : (stop : NotedStop) → StepMade seen may_leave moment left_since (Err stop) mid new between after → (m : Whole) (least : List Row) → IsAt seen may_leave mid between m least → room_of seen new.meta ≡ room_of seen mid.meta →
+    left_by : (stop : NotedStop) → StepMade seen may_leave moment left_since calls (Err stop) mid new between after → (m : Whole) (least : List Row) → IsAt seen may_leave mid between m least → room_of seen new.meta ≡ room_of seen mid.meta →
         after ≡ between → Left stop m
     left_by MetaFailed made m least at size same =
         let c = made.into refl m least at in (c.meter, paid_there m c.meter (c.metered, c.paid) size same, λ failed. left_there m size c)
@@ -168,7 +168,7 @@ module _ {C D : Type 0} (seen : D → List ℕ) (may_leave : D → List ℕ → 
     left_by NoMemory made m least at size same = left_else NoMemory (λ failed. cc) m least at size same
     left_by MetaFull made m least at size same = left_else MetaFull (λ failed. cc) m least at size same
 
-    pub halted : (stop : NotedStop) → StepMade seen may_leave moment left_since (Err stop) mid new between after →
+    pub halted : (stop : NotedStop) → StepMade seen may_leave moment left_since calls (Err stop) mid new between after →
         (IsErrOf {T = Bool} (Err stop) LogFull → (m : Whole) (least : List Row) → IsAt seen may_leave mid between m least → AsksSome mid.store.control.grain mid.script m) →
         room_of seen new.meta ≡ room_of seen mid.meta → ScriptStops seen may_leave fault_count calls stop old new before after
     halted stop made asks size read w least there =
@@ -177,7 +177,7 @@ module _ {C D : Type 0} (seen : D → List ℕ) (may_leave : D → List ℕ → 
         halted_by stop read w m.0 m.1 m.3 (of_by mid.under_way mid between m.0 m.1 m.2) made.full (λ full. asks full m.0 m.1 m.2) (left_by stop made m.0 m.1 m.2 size s.0) s.0 s.1
 
     -- it is within the limit
-    pub halted_limit : (stop : NotedStop) → StepMade seen may_leave moment left_since (Err stop) mid new between after → length after.entries ≤ 262144
+    pub halted_limit : (stop : NotedStop) → StepMade seen may_leave moment left_since calls (Err stop) mid new between after → length after.entries ≤ 262144
     halted_limit stop made =
         let can = comes.can in
         subst (λ (h : HistoryState). length h.entries ≤ 262144) (sym (made.stopped can.w can.least can.at).0) can.room

@@ -26,14 +26,14 @@ use Rattle.fc_script.specs.declared.script.Script.{Script}
 use Rattle.fc_stands.specs.Store.{StandsFor, StoreView}
 use Rattle.fc_store.specs.Stepping.{lane_in}
 
-module _ {C D : Type 0} (seen : D → List ℕ) (may_leave : D → List ℕ → Type 0) (moment : D → ℕ) (left_since : D → ℕ → List ℕ → Type 0) (only_now : (disk : D) (c : List ℕ) → left_since disk (moment disk) c → may_leave disk c)
+module _ {C D : Type 0} (seen : D → List ℕ) (may_leave : D → List ℕ → Type 0) (moment : D → ℕ) (left_since : D → ℕ → List ℕ → Type 0) (disk_calls : D → ℕ) (only_now : (disk : D) (c : List ℕ) → left_since disk (moment disk) c → may_leave disk c)
     (old : Noted C D) (history : HistoryState) (begins : CanBegin seen may_leave old history) (room : length history.entries < 262144)
     {roomy store : StoreView} {volume : VolId} {block count g place first many : ℕ} {access : Access} {entry : Entry} (a : IsAnswered old.store roomy store history volume block count g place first many access entry)
     (unchanged : lane_in store place ≡ lane_in roomy place) (nothing : HasDoneNothing entry) (unwritten : done_write entry.request entry.reply ≡ None) where
   same : HoldSame old.store.lanes store.lanes
   same = one_same roomy store place a.others (ap (λ (v : LaneView). v.grains) unchanged) a.reached.ready.inside ∙ a.reached.roomier.grains
 
-  holds : (w : Whole) (least : List Row) (h : IsNotedAt seen may_leave old history w least) → HoldStill seen may_leave moment left_since only_now old history begins.at.idle begins.live room store (answered_control a) w h.point
+  holds : (w : Whole) (least : List Row) (h : IsNotedAt seen may_leave old history w least) → HoldStill seen may_leave moment left_since disk_calls only_now old history begins.at.idle begins.live room store (answered_control a) w h.point
   holds w least h =
       let few : w.entries < 262144 = subst (λ (k : ℕ). k < 262144) (sym h.told.1.entries) room in
       record {
@@ -45,9 +45,9 @@ module _ {C D : Type 0} (seen : D → List ℕ) (may_leave : D → List ℕ → 
   pub idle_made : (script : Script) (result : Result (Unit {0}) NotedStop) (behind : HistoryState) →
       ((w : Whole) → StandsFor old.store w → IsNext old.store.control.grain w (Some (Part access volume block count g)) (agenda_of old.store.control.grain old.script)) →
       OnOk result (behind ≡ record history { entries = history.entries ++ entry ∷ [] }) → OnOk result (GoesBehind store.control.grain (StandsFor store) old.script entry script) → OnErr result (behind ≡ history) →
-      IfErr result (λ stop. stop ≡ WantsMemory) → StepMade seen may_leave moment left_since (always result) old (record old { store = store; script = script }) history behind
+      IfErr result (λ stop. stop ≡ WantsMemory) → StepMade seen may_leave moment left_since disk_calls (always result) old (record old { store = store; script = script }) history behind
   idle_made script result behind next =
-      still_made seen may_leave moment left_since only_now old history begins.at.idle begins.live room store (answered_control a) holds (request_of access volume first many) entry script result behind
+      still_made seen may_leave moment left_since disk_calls only_now old history begins.at.idle begins.live room store (answered_control a) holds (request_of access volume first many) entry script result behind
       (record {
         leads = λ w least h.
             access_leads (StandsFor store) old.store.control.grain w least h.point (request_of access volume first many) entry (lane_of_grain w g) (answered_turn a w h.told)

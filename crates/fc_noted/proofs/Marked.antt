@@ -69,7 +69,7 @@ matches_mark : (grain : GrainSize) (named : ℕ) (k : Kept) (part : WritePart) (
 matches_mark grain named k part g lanes ds m =
     record { count = m.count; each = λ i d il. let x = m.each i d il in record { once = x.once; there = x.there; none = x.none; free = x.free; bytes = x.bytes } }
 
-module _ {C D : Type 0} (seen : D → List ℕ) (may_leave : D → List ℕ → Type 0) (moment : D → ℕ) (left_since : D → ℕ → List ℕ → Type 0) (counts_now : (disk : D) (t : ℕ) (c : List ℕ) → t ≤ moment disk → may_leave disk c → left_since disk t c)
+module _ {C D : Type 0} (seen : D → List ℕ) (may_leave : D → List ℕ → Type 0) (moment : D → ℕ) (left_since : D → ℕ → List ℕ → Type 0) (disk_calls : D → ℕ) (counts_now : (disk : D) (t : ℕ) (c : List ℕ) → t ≤ moment disk → may_leave disk c → left_since disk t c)
     (n : Noted C D) (way : UnderWay) (part : WritePart) (none : way.due ≡ None) (live : n.live ≡ true) (next : next_of way.doing.steps ≡ Own part)
     (wants : is_open_any (lane_in n.store way.place).changes.rows n.marks.items part.volume way.doing.steps.grain way.doing.steps.place ≡ true)
     (meta : Meta D) (calls : ℕ) (counted : (m : Meter) → IsMetered seen n.meta m → n.calls ≡ more_calls m.calls 0 → calls ≡ more_calls (with_record (room_of seen n.meta) (Changing part.volume way.doing.steps.grain) m).calls 0)
@@ -145,31 +145,31 @@ module _ {C D : Type 0} (seen : D → List ℕ) (may_leave : D → List ℕ → 
     mark_into = goes_into_record seen may_leave old left way history w least d x (steps_done way.doing.steps) way.doing.steps.stop None acted.so_far counted
 
   mark_made : IsResting seen may_leave meta → found seen meta ≡ found_with (found seen n.meta) (Changing part.volume way.doing.steps.grain ∷ []) → room_of seen meta ≡ room_of seen n.meta → Puts → (history : HistoryState) →
-      WayMade seen may_leave moment left_since done n way new history history
+      WayMade seen may_leave moment left_since disk_calls done n way new history history
   mark_made rests says size metered =
-      way_goes seen may_leave moment left_since n new way (λ history w least d. mark_leaves history w least d (Some way_new)) way_new live refl refl refl (λ history w least d. mark_doing history w least d rests says size metered)
+      way_goes seen may_leave moment left_since disk_calls n new way (λ history w least d. mark_leaves history w least d (Some way_new)) way_new live refl refl refl (λ history w least d. mark_doing history w least d rests says size metered)
 
   -- with the way as it is
   pub mark_made_by : IsResting seen may_leave meta → found seen meta ≡ found_with (found seen n.meta) (Changing part.volume way.doing.steps.grain ∷ []) → room_of seen meta ≡ room_of seen n.meta → Puts → (history : HistoryState) →
-      WayMade seen may_leave moment left_since done n way (record n { meta = meta; calls = calls; marks = marks; under_way = Some way }) history history
+      WayMade seen may_leave moment left_since disk_calls done n way (record n { meta = meta; calls = calls; marks = marks; under_way = Some way }) history history
   mark_made_by rests says size metered history =
       let same : way ≡ way_new = λ i. record { place = way.place; doing = way.doing; due = none i } in
-      subst (λ (z : UnderWay). WayMade seen may_leave moment left_since done n way (record n { meta = meta; calls = calls; marks = marks; under_way = Some z }) history history) (sym same) (mark_made rests says size metered history)
+      subst (λ (z : UnderWay). WayMade seen may_leave moment left_since disk_calls done n way (record n { meta = meta; calls = calls; marks = marks; under_way = Some z }) history history) (sym same) (mark_made rests says size metered history)
 
   pub mark_failed : (result : Result (Unit {0}) NotedStop) (given stop : NotedStop) → result ≡ Err given → given ≡ stop → (stop ≡ LogFull → ⊥) → (history : HistoryState) →
-      WayMade seen may_leave moment left_since result n way (left) history history
+      WayMade seen may_leave moment left_since disk_calls result n way (left) history history
   mark_failed result given stop e same other =
-      way_stops seen may_leave moment left_since n left way (λ history w least d. mark_leaves history w least d n.under_way) result given stop e same other mark_stops (λ history w least d is. mark_into history w least d)
+      way_stops seen may_leave moment left_since disk_calls n left way (λ history w least d. mark_leaves history w least d n.under_way) result given stop e same other mark_stops (λ history w least d is. mark_into history w least d)
 
 -- refused before the disk of metadata is called
-module _ {C D : Type 0} (seen : D → List ℕ) (may_leave : D → List ℕ → Type 0) (moment : D → ℕ) (left_since : D → ℕ → List ℕ → Type 0) (only_now : (disk : D) (c : List ℕ) → left_since disk (moment disk) c → may_leave disk c)
+module _ {C D : Type 0} (seen : D → List ℕ) (may_leave : D → List ℕ → Type 0) (moment : D → ℕ) (left_since : D → ℕ → List ℕ → Type 0) (disk_calls : D → ℕ) (only_now : (disk : D) (c : List ℕ) → left_since disk (moment disk) c → may_leave disk c)
     (n : Noted C D) (way : UnderWay) (marks : Vec Mark Global) where
   pub mark_refused : (result : Result (Unit {0}) NotedStop) (given stop : NotedStop) → result ≡ Err given → given ≡ stop → (stop ≡ LogFull → ⊥) → (stop ≡ MetaFailed → ⊥) → (history : HistoryState) →
-      WayMade seen may_leave moment left_since result n way (record n { marks = marks }) history history
+      WayMade seen may_leave moment left_since disk_calls result n way (record n { marks = marks }) history history
   mark_refused result given stop e same other quiet =
       let old : Noted C D = record n { under_way = Some way } in
       let new : Noted C D = record n { marks = marks } in
-      way_stops seen may_leave moment left_since n new way
+      way_stops seen may_leave moment left_since disk_calls n new way
       (λ history w least d. still_leaves seen may_leave moment left_since only_now old new w least d.keeps.image refl d.keeps.says d.keeps.rests.durable
       (hold_either n.store n.store n.script n.named w least d.keeps.image refl (doing_found seen may_leave old way history w least d) (doing_found seen may_leave old way history w least d)))
       result given stop e same other

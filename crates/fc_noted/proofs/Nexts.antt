@@ -44,7 +44,7 @@ may_be_behind grain old script named lanes w least image goes m =
       found = m.found;
     }
 
-module _ {C D : Type 0} (seen : D → List ℕ) (may_leave : D → List ℕ → Type 0) (moment : D → ℕ) (left_since : D → ℕ → List ℕ → Type 0) (only_now : (disk : D) (c : List ℕ) → left_since disk (moment disk) c → may_leave disk c)
+module _ {C D : Type 0} (seen : D → List ℕ) (may_leave : D → List ℕ → Type 0) (moment : D → ℕ) (left_since : D → ℕ → List ℕ → Type 0) (disk_calls : D → ℕ) (only_now : (disk : D) (c : List ℕ) → left_since disk (moment disk) c → may_leave disk c)
     (old : Noted C D) (script : Script) (before : HistoryState) (idle : old.under_way ≡ None) where
   abbrev on_script : Noted C D
   on_script = record old { script = script }
@@ -157,7 +157,7 @@ module _ {C D : Type 0} (seen : D → List ℕ) (may_leave : D → List ℕ → 
             calls = i.calls;
           }
 
-    made_by : (result : Result Bool NotedStop) (new : Noted C D) (after : HistoryState) → StepMade seen may_leave moment left_since result on_script new before after → StepMade seen may_leave moment left_since result old new before after
+    made_by : (result : Result Bool NotedStop) (new : Noted C D) (after : HistoryState) → StepMade seen may_leave moment left_since disk_calls result on_script new before after → StepMade seen may_leave moment left_since disk_calls result old new before after
     made_by (Ok more) new after s =
         record {
           on = λ w least at. on_behind new after w least at more (s.on w least (script_is_at w least at));
@@ -179,15 +179,15 @@ module _ {C D : Type 0} (seen : D → List ℕ) (may_leave : D → List ℕ → 
           into = λ f w least at. into_behind new after w least at (s.into f w least (script_is_at w least at));
         }
 
-    pub made_behind : (result : Result Bool NotedStop) (new : Noted C D) (after : HistoryState) → StepMade seen may_leave moment left_since result (record old { script = script }) new before after →
-        StepMade seen may_leave moment left_since result old new before after
+    pub made_behind : (result : Result Bool NotedStop) (new : Noted C D) (after : HistoryState) → StepMade seen may_leave moment left_since disk_calls result (record old { script = script }) new before after →
+        StepMade seen may_leave moment left_since disk_calls result old new before after
     made_behind result new after s =
-        let s' : StepMade seen may_leave moment left_since result on_script new before after = s in
+        let s' : StepMade seen may_leave moment left_since disk_calls result on_script new before after = s in
         made_by result new after s'
 
     -- nothing is left
     pub nothing_next : (live : old.live ≡ true) (room : length before.entries ≤ 262144) → ((w : Whole) → StandsFor old.store w → IsNext old.store.control.grain w None (agenda_of old.store.control.grain script)) →
-        StepMade seen may_leave moment left_since (Ok false) old (record old { script = script }) before before
+        StepMade seen may_leave moment left_since disk_calls (Ok false) old (record old { script = script }) before before
     nothing_next live room none =
         record {
           on = λ w least at.
@@ -200,7 +200,7 @@ module _ {C D : Type 0} (seen : D → List ℕ) (may_leave : D → List ℕ → 
         }
 
   -- memory was wanted, and nothing is said of the script
-  pub wanted_next : (room : length before.entries ≤ 262144) → StepMade seen may_leave moment left_since (Err WantsMemory) old (record old { script = script }) before before
+  pub wanted_next : (room : length before.entries ≤ 262144) → StepMade seen may_leave moment left_since disk_calls (Err WantsMemory) old (record old { script = script }) before before
   wanted_next room =
       record {
         on = tt;

@@ -86,7 +86,7 @@ read_tells Stands grain w next part entry turn =
 
 -- ---- in a noted store in which room was made
 
-module _ {C D : Type 0} (seen : D → List ℕ) (may_leave : D → List ℕ → Type 0) (moment : D → ℕ) (left_since : D → ℕ → List ℕ → Type 0) (only_now : (disk : D) (c : List ℕ) → left_since disk (moment disk) c → may_leave disk c)
+module _ {C D : Type 0} (seen : D → List ℕ) (may_leave : D → List ℕ → Type 0) (moment : D → ℕ) (left_since : D → ℕ → List ℕ → Type 0) (disk_calls : D → ℕ) (only_now : (disk : D) (c : List ℕ) → left_since disk (moment disk) c → may_leave disk c)
     (old : Noted C D) (history : HistoryState) (begins : CanBegin seen may_leave old history) (room : length history.entries < 262144)
     {roomy store : StoreView} {volume : VolId} {block count g place first many : ℕ} {entry : Entry} (a : IsAnswered old.store roomy store history volume block count g place first many Read entry) where
   abbrev part : ReadPart
@@ -107,7 +107,7 @@ module _ {C D : Type 0} (seen : D → List ℕ) (may_leave : D → List ℕ → 
       ∙ (ap (λ (p : Pool). slice_set (map disks_of roomy.lanes) place p) (a.followed.same.disks ∙ sym (get_or-map disks_of roomy.lanes place no_lane (disks_of no_lane) a.reached.ready.inside))
       ∙ (set-get_or (map disks_of roomy.lanes) place (disks_of no_lane) ∙ disks_each old.store.lanes roomy.lanes a.reached.roomier.grains)))
 
-  holds : (w : Whole) (least : List Row) (h : IsNotedAt seen may_leave old history w least) → HoldStill seen may_leave moment left_since only_now old history begins.at.idle begins.live room store (answered_control a) w h.point
+  holds : (w : Whole) (least : List Row) (h : IsNotedAt seen may_leave old history w least) → HoldStill seen may_leave moment left_since disk_calls only_now old history begins.at.idle begins.live room store (answered_control a) w h.point
   holds w least h =
       let grain : GrainSize = old.store.control.grain in
       let few_told : w.entries < 262144 = subst (λ (k : ℕ). k < 262144) (sym h.told.1.entries) room in
@@ -127,7 +127,7 @@ module _ {C D : Type 0} (seen : D → List ℕ) (may_leave : D → List ℕ → 
   pub read_made : (script : Script) (result : Result (Unit {0}) NotedStop) (behind : HistoryState) →
       ((w : Whole) → StandsFor old.store w → IsNext old.store.control.grain w (Some (Part Read volume block count g)) (agenda_of old.store.control.grain old.script)) →
       OnOk result (behind ≡ record history { entries = history.entries ++ entry ∷ [] }) → OnOk result (GoesBehind store.control.grain (StandsFor store) old.script entry script) → OnErr result (behind ≡ history) →
-      IfErr result (λ stop. stop ≡ WantsMemory) → StepMade seen may_leave moment left_since (always result) old (record old { store = store; script = script }) history behind
+      IfErr result (λ stop. stop ≡ WantsMemory) → StepMade seen may_leave moment left_since disk_calls (always result) old (record old { store = store; script = script }) history behind
   read_made script result behind next =
-      still_made seen may_leave moment left_since only_now old history begins.at.idle begins.live room store (answered_control a) holds (ReadBlocks part) entry script result behind
+      still_made seen may_leave moment left_since disk_calls only_now old history begins.at.idle begins.live room store (answered_control a) holds (ReadBlocks part) entry script result behind
       (record { leads = leads; asks = λ w up. asks_blocks a.reached Read (agenda_of old.store.control.grain old.script) w (next w up) })

@@ -78,15 +78,15 @@ refused_leads s w least p number request refusal stands counted is =
       rows = refl;
     }
 
-module _ {C D : Type 0} (seen : D → List ℕ) (may_leave : D → List ℕ → Type 0) (moment : D → ℕ) (left_since : D → ℕ → List ℕ → Type 0) (only_now : (disk : D) (c : List ℕ) → left_since disk (moment disk) c → may_leave disk c)
+module _ {C D : Type 0} (seen : D → List ℕ) (may_leave : D → List ℕ → Type 0) (moment : D → ℕ) (left_since : D → ℕ → List ℕ → Type 0) (disk_calls : D → ℕ) (only_now : (disk : D) (c : List ℕ) → left_since disk (moment disk) c → may_leave disk c)
     (old : Noted C D) (history : HistoryState) (idle : old.under_way ≡ None) (live : old.live ≡ true) (room : length history.entries < 262144) where
   pub refused_made : (number : ℕ) (request : Request) (refusal : Refusal) (entry : Entry) (script : Script) (result : Result (Unit {0}) NotedStop) (behind : HistoryState) → number ≡ length history.entries → entry ≡ refused_at number request refusal →
       ((w : Whole) → StandsFor old.store w → IsRefusalOf old.store.control.grain w request refusal) →
       ((w : Whole) → StandsFor old.store w → Asks old.store.control.grain (agenda_of old.store.control.grain old.script) w (0, request)) →
       OnOk result (behind ≡ record history { entries = history.entries ++ entry ∷ [] }) → OnOk result (GoesBehind old.store.control.grain (StandsFor old.store) old.script entry script) → OnErr result (behind ≡ history) →
-      IfErr result (λ stop. stop ≡ WantsMemory) → StepMade seen may_leave moment left_since (always result) old (record old { script = script }) history behind
+      IfErr result (λ stop. stop ≡ WantsMemory) → StepMade seen may_leave moment left_since disk_calls (always result) old (record old { script = script }) history behind
   refused_made number request refusal entry script result behind counted made is asks =
-      still_made seen may_leave moment left_since only_now old history idle live room old.store refl
+      still_made seen may_leave moment left_since disk_calls only_now old history idle live room old.store refl
       (λ w least h.
       let few : w.entries < 262144 = subst (λ (k : ℕ). k < 262144) (sym h.told.1.entries) room in
       record { matches = h.keeps.matches; volumes = h.keeps.volumes; counted = has_counted old.store w h.told.0 (omega (arith, few)) })

@@ -21,22 +21,22 @@ use Rattle.fc_script.specs.declared.script.Script.{Script}
 use Rattle.fc_stands.specs.Store.{StoreView}
 use Rattle.fc_steps.specs.Asking.{request_of}
 
-module _ {C D : Type 0} (seen : D → List ℕ) (may_leave : D → List ℕ → Type 0) (moment : D → ℕ) (left_since : D → ℕ → List ℕ → Type 0) (old new : Noted C D) (before after : HistoryState) where
+module _ {C D : Type 0} (seen : D → List ℕ) (may_leave : D → List ℕ → Type 0) (moment : D → ℕ) (left_since : D → ℕ → List ℕ → Type 0) (disk_calls : D → ℕ) (old new : Noted C D) (before after : HistoryState) where
   -- the entry that is under way is this one
-  pub step_same : (result : Result Bool NotedStop) (o : Option UnderWay) → old.under_way ≡ o → StepMade seen may_leave moment left_since result (record old { under_way = o }) new before after →
-      StepMade seen may_leave moment left_since result old new before after
+  pub step_same : (result : Result Bool NotedStop) (o : Option UnderWay) → old.under_way ≡ o → StepMade seen may_leave moment left_since disk_calls result (record old { under_way = o }) new before after →
+      StepMade seen may_leave moment left_since disk_calls result old new before after
   step_same result o e made =
       let same : old ≡ record old { under_way = o } = λ i. record old { under_way = e i } in
-      subst (λ (z : Noted C D). StepMade seen may_leave moment left_since result z new before after) (sym same) made
+      subst (λ (z : Noted C D). StepMade seen may_leave moment left_since disk_calls result z new before after) (sym same) made
 
   pub step_failed : (result : Result Bool NotedStop) (given stop : NotedStop) (o : Option UnderWay) → result ≡ Err given → given ≡ stop → old.under_way ≡ o →
-      StepMade seen may_leave moment left_since (Err stop) (record old { under_way = o }) new before after → StepMade seen may_leave moment left_since result old new before after
+      StepMade seen may_leave moment left_since disk_calls (Err stop) (record old { under_way = o }) new before after → StepMade seen may_leave moment left_since disk_calls result old new before after
   step_failed result given stop o e is way made =
-      subst (λ (z : Result Bool NotedStop). StepMade seen may_leave moment left_since z old new before after) (sym (e ∙ ap (λ (z : NotedStop). Err z) is)) (step_same (Err stop) o way made)
+      subst (λ (z : Result Bool NotedStop). StepMade seen may_leave moment left_since disk_calls z old new before after) (sym (e ∙ ap (λ (z : NotedStop). Err z) is)) (step_same (Err stop) o way made)
 
   -- ---- an error
 
-  ended : (stop : NotedStop) → StepMade seen may_leave moment left_since (Err stop) old new before after → StepMade seen may_leave moment left_since (Err stop) old (record new { live = false }) before after
+  ended : (stop : NotedStop) → StepMade seen may_leave moment left_since disk_calls (Err stop) old new before after → StepMade seen may_leave moment left_since disk_calls (Err stop) old (record new { live = false }) before after
   ended stop made =
       record {
         on = tt;
@@ -50,8 +50,8 @@ module _ {C D : Type 0} (seen : D → List ℕ) (may_leave : D → List ℕ → 
             record { request = x.request; asking = x.asking; reached = x.reached; asked = x.asked; meter = x.meter; metered = x.metered; paid = x.paid; into = x.into; goes = x.goes; calls = x.calls };
       }
 
-  pub step_ended : (result : Result Bool NotedStop) → is_err result ≡ true → StepMade seen may_leave moment left_since result old new before after →
-      StepMade seen may_leave moment left_since result old (record new { live = false }) before after
+  pub step_ended : (result : Result Bool NotedStop) → is_err result ≡ true → StepMade seen may_leave moment left_since disk_calls result old new before after →
+      StepMade seen may_leave moment left_since disk_calls result old (record new { live = false }) before after
   step_ended (Ok more) e made = absurd cc
   step_ended (Err stop) e made = ended stop made
 
@@ -74,13 +74,13 @@ refused stop = Err stop
 pub same_stop : (stop : NotedStop) {told : NotedStop} → IsErrOf (refused stop) told → stop ≡ told
 same_stop stop e = cc
 
-module _ {C D : Type 0} (seen : D → List ℕ) (may_leave : D → List ℕ → Type 0) (moment : D → ℕ) (left_since : D → ℕ → List ℕ → Type 0) (n new : Noted C D) (way : UnderWay)
+module _ {C D : Type 0} (seen : D → List ℕ) (may_leave : D → List ℕ → Type 0) (moment : D → ℕ) (left_since : D → ℕ → List ℕ → Type 0) (disk_calls : D → ℕ) (n new : Noted C D) (way : UnderWay)
     (leaves : (history : HistoryState) (w : Whole) (least : List Row) → IsDoing seen may_leave (record n { under_way = Some way }) way history w least →
     LeavesOnly moment left_since n.meta.disk new.meta.disk (LeavesRecoverable (record n { under_way = Some way }) new w least)) where
   -- it goes on
   pub way_goes : (next : UnderWay) → new.live ≡ true → new.store.control.grain ≡ n.store.control.grain → new.script ≡ n.script → new.under_way ≡ Some next →
       ((history : HistoryState) (w : Whole) (least : List Row) → IsDoing seen may_leave (record n { under_way = Some way }) way history w least → IsDoing seen may_leave new next history w least) → (history : HistoryState) →
-      WayMade seen may_leave moment left_since done n way new history history
+      WayMade seen may_leave moment left_since disk_calls done n way new history history
   way_goes next live grain script under goes history =
       record {
         on = λ w least d. inl (record {
@@ -100,9 +100,9 @@ module _ {C D : Type 0} (seen : D → List ℕ) (may_leave : D → List ℕ → 
   pub way_stops : (result : Result (Unit {0}) NotedStop) (given stop : NotedStop) → result ≡ Err given → given ≡ stop → (stop ≡ LogFull → ⊥) →
       ((history : HistoryState) (w : Whole) (least : List Row) → IsDoing seen may_leave (record n { under_way = Some way }) way history w least → HasStopped may_leave (record n { under_way = Some way }) new w least) →
       ((history : HistoryState) (w : Whole) (least : List Row) → IsDoing seen may_leave (record n { under_way = Some way }) way history w least → stop ≡ MetaFailed → CountsInto seen (record n { under_way = Some way }) new history w) →
-      (history : HistoryState) → WayMade seen may_leave moment left_since result n way new history history
+      (history : HistoryState) → WayMade seen may_leave moment left_since disk_calls result n way new history history
   way_stops result given stop e same other stops into history =
-      subst (λ (z : Result (Unit {0}) NotedStop). WayMade seen may_leave moment left_since z n way new history history) (sym (e ∙ ap (λ (z : NotedStop). Err z) same))
+      subst (λ (z : Result (Unit {0}) NotedStop). WayMade seen may_leave moment left_since disk_calls z n way new history history) (sym (e ∙ ap (λ (z : NotedStop). Err z) same))
       (record {
         on = tt;
         any_moment = leaves history;

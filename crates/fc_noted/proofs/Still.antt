@@ -109,7 +109,7 @@ module _ (grain : GrainSize) (entries : List Entry) (w : Whole) (least : List Ro
       let more_by_one = leads.turn.counted in
       point_stands grain (entries ++ entry ∷ []) leads.next leads.least_next p run_still (omega (arith, few, more_by_one))
 
-module _ {C D : Type 0} (seen : D → List ℕ) (may_leave : D → List ℕ → Type 0) (moment : D → ℕ) (left_since : D → ℕ → List ℕ → Type 0) (only_now : (disk : D) (c : List ℕ) → left_since disk (moment disk) c → may_leave disk c)
+module _ {C D : Type 0} (seen : D → List ℕ) (may_leave : D → List ℕ → Type 0) (moment : D → ℕ) (left_since : D → ℕ → List ℕ → Type 0) (disk_calls : D → ℕ) (only_now : (disk : D) (c : List ℕ) → left_since disk (moment disk) c → may_leave disk c)
     (old : Noted C D) (history : HistoryState) (idle : old.under_way ≡ None) (live : old.live ≡ true) (room : length history.entries < 262144) (store : StoreView) (control : store.control ≡ old.store.control) where
   -- What the lanes then hold matches the disks that were matched, and no fewer calls and faults were counted.
   pub record HoldStill (w : Whole) (p : Point) : Type 0 where
@@ -226,7 +226,7 @@ module _ {C D : Type 0} (seen : D → List ℕ) (may_leave : D → List ℕ → 
       pub asks : (w : Whole) → StandsFor old.store w → Asks old.store.control.grain (agenda_of old.store.control.grain old.script) w (0, request)
 
     still_logged : (request : Request) (entry : Entry) (script : Script) → IsStill request entry → GoesBehind store.control.grain (StandsFor store) old.script entry script →
-        StepMade seen may_leave moment left_since (Ok true) old (record old { store = store; script = script }) history (record history { entries = history.entries ++ entry ∷ [] })
+        StepMade seen may_leave moment left_since disk_calls (Ok true) old (record old { store = store; script = script }) history (record history { entries = history.entries ++ entry ∷ [] })
     still_logged request entry script e goes =
         record {
           on = λ w least at.
@@ -257,7 +257,7 @@ module _ {C D : Type 0} (seen : D → List ℕ) (may_leave : D → List ℕ → 
         }
 
     -- or memory was wanted, and it isn't
-    still_wanted : (script : Script) → StepMade seen may_leave moment left_since (Err WantsMemory) old (record old { store = store; script = script }) history history
+    still_wanted : (script : Script) → StepMade seen may_leave moment left_since disk_calls (Err WantsMemory) old (record old { store = store; script = script }) history history
     still_wanted script =
         record {
           on = tt;
@@ -275,9 +275,9 @@ module _ {C D : Type 0} (seen : D → List ℕ) (may_leave : D → List ℕ → 
     -- whichever it was
     pub still_made : (request : Request) (entry : Entry) (script : Script) (result : Result (Unit {0}) NotedStop) (behind : HistoryState) → IsStill request entry →
         OnOk result (behind ≡ record history { entries = history.entries ++ entry ∷ [] }) → OnOk result (GoesBehind store.control.grain (StandsFor store) old.script entry script) → OnErr result (behind ≡ history) →
-        IfErr result (λ stop. stop ≡ WantsMemory) → StepMade seen may_leave moment left_since (always result) old (record old { store = store; script = script }) history behind
+        IfErr result (λ stop. stop ≡ WantsMemory) → StepMade seen may_leave moment left_since disk_calls (always result) old (record old { store = store; script = script }) history behind
     still_made request entry script (Ok none) behind e logged goes unlogged stop =
-        subst (λ (x : HistoryState). StepMade seen may_leave moment left_since (Ok true) old (record old { store = store; script = script }) history x) (sym logged) (still_logged request entry script e goes)
+        subst (λ (x : HistoryState). StepMade seen may_leave moment left_since disk_calls (Ok true) old (record old { store = store; script = script }) history x) (sym logged) (still_logged request entry script e goes)
     still_made request entry script (Err stop) behind e logged goes unlogged wanted =
-        subst (λ (s : NotedStop). StepMade seen may_leave moment left_since (Err s) old (record old { store = store; script = script }) history behind) (sym wanted)
-        (subst (λ (x : HistoryState). StepMade seen may_leave moment left_since (Err WantsMemory) old (record old { store = store; script = script }) history x) (sym unlogged) (still_wanted script))
+        subst (λ (s : NotedStop). StepMade seen may_leave moment left_since disk_calls (Err s) old (record old { store = store; script = script }) history behind) (sym wanted)
+        (subst (λ (x : HistoryState). StepMade seen may_leave moment left_since disk_calls (Err WantsMemory) old (record old { store = store; script = script }) history x) (sym unlogged) (still_wanted script))

@@ -13,14 +13,14 @@ use Rattle.fc_noted.specs.declared.noted.Noted.{Noted}
 use Rattle.fc_stands.specs.Store.{StoreView}
 use Rattle.fc_store.specs.Ready.{IsRoomier, IsStopped}
 
-module _ {C D : Type 0} (seen : D → List ℕ) (may_leave : D → List ℕ → Type 0) (moment : D → ℕ) (left_since : D → ℕ → List ℕ → Type 0) (only_now : (disk : D) (c : List ℕ) → left_since disk (moment disk) c → may_leave disk c)
+module _ {C D : Type 0} (seen : D → List ℕ) (may_leave : D → List ℕ → Type 0) (moment : D → ℕ) (left_since : D → ℕ → List ℕ → Type 0) (disk_calls : D → ℕ) (only_now : (disk : D) (c : List ℕ) → left_since disk (moment disk) c → may_leave disk c)
     (old : Noted C D) (history : HistoryState) (begins : CanBegin seen may_leave old history) (roomy : StoreView) (kept : IsRoomier old.store roomy) where
   pub unready_made : (stop : Stop) → IsStopped stop history → (result : Result (Unit {0}) NotedStop) → IsErrAnd result (λ e. e ≡ stop_of_log stop) →
-      StepMade seen may_leave moment left_since (always result) old (record old { store = roomy }) history history
+      StepMade seen may_leave moment left_since disk_calls (always result) old (record old { store = roomy }) history history
   unready_made stop is (Ok none) told = absurd told
   unready_made stop is (Err e) told =
-      subst (λ (s : NotedStop). StepMade seen may_leave moment left_since (Err s) old (record old { store = roomy }) history history) (sym told)
-      (stopped_made seen may_leave moment left_since only_now old history begins roomy kept (stop_of_log stop) (full_only stop history is) (not_failed stop))
+      subst (λ (s : NotedStop). StepMade seen may_leave moment left_since disk_calls (Err s) old (record old { store = roomy }) history history) (sym told)
+      (stopped_made seen may_leave moment left_since disk_calls only_now old history begins roomy kept (stop_of_log stop) (full_only stop history is) (not_failed stop))
 
 -- no disk failed
 module _ {C D : Type 0} (seen : D → List ℕ) (fault_count calls : D → ℕ) (old : Noted C D) (roomy : StoreView) where

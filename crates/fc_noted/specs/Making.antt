@@ -1,5 +1,5 @@
 -- What a step makes, and what it leaves.
-use Rattle.std.specs.Prelude.{◌+◌, ◌≡◌, ◌⊎◌, ℕ, ◌<◌, ◌≤◌, Bool, true, false, List, [], ◌∷◌, ◌++◌, length, Some, None, Result, Ok, Err, IfOk, OnErr, OnOk, IsErrOf}
+use Rattle.std.specs.Prelude.{◌+◌, ◌≡◌, ◌⊎◌, ℕ, ◌<◌, ◌≤◌, Bool, true, false, List, [], ◌∷◌, ◌++◌, length, Some, None, Result, Ok, Err, IfErr, IfOk, OnErr, OnOk, IsErrOf}
 use Rattle.fc_apart.specs.Effects.{IsJoined}
 use Rattle.fc_base.specs.Count.{HasRisen}
 use Rattle.fc_base.specs.declared.command.Command.{Command}
@@ -26,7 +26,7 @@ use Rattle.fc_legal.specs.Lawful.{IsLawful}
 use Rattle.fc_legal.specs.Steps.{Step, left_by}
 use Rattle.fc_legal.specs.Whole.{Whole}
 use Rattle.fc_meta.specs.Answers.{more_calls}
-use Rattle.fc_meta.specs.States.{IsResting, disk_of, found, room_of, used_of}
+use Rattle.fc_meta.specs.States.{IsResting, disk_of, found, room_of}
 use Rattle.fc_metadisk.specs.Disk.{LeavesOnly}
 use Rattle.fc_script.specs.Asking.{IsAnswer, IsLeft}
 use Rattle.fc_script.specs.Passage.{GoesOn}
@@ -44,12 +44,12 @@ use Rattle.fc_steps.specs.declared.stepping.Next.TheVariants.{Own}
 use Rattle.fc_store.specs.Stepping.{lane_in}
 use Rattle.law_noted.specs.DataSteps.{Copies}
 use Rattle.fc_marks.specs.Marks.{is_open_any}
-use Rattle.fc_marks.specs.Meter.{Meter, filled_size}
+use Rattle.fc_marks.specs.Meter.{IsCutShort, IsMetered, Meter, with_fold}
 use Rattle.fc_noted.specs.Metered.{GoesInto, Metered}
 use Rattle.fc_noted.specs.Noted.{Counts, GoesOnTo, IsAt, IsNotedAt, Keeps}
-use Rattle.fc_noted.specs.Stopping.{HasStopped, LeavesRecoverable}
+use Rattle.fc_noted.specs.Stopping.{HasStopped, LeavesRecoverable, OfMetadata, StopsInto}
 use Rattle.fc_marks.specs.declared.error.NotedStop.{NotedStop}
-use Rattle.fc_marks.specs.declared.error.NotedStop.TheVariants.{LogFull, MetaFailed}
+use Rattle.fc_marks.specs.declared.error.NotedStop.TheVariants.{LogFull, MetaFailed, MetaFull}
 use Rattle.fc_noted.specs.declared.noted.Noted.{Noted}
 use Rattle.fc_noted.specs.declared.noted.UnderWay.{UnderWay}
 
@@ -87,7 +87,8 @@ GoesBehind grain Stands script entry new = (w next : Whole) → IsAnswer grain s
 
 -- ---- calls of the disk of metadata
 
--- It was called as often as was counted, and never failed; behind an error at most so often. It failed where that is told.
+-- It was called as often as was counted, and never failed; behind an error at most so often. It failed where that is told, and not
+-- where it is told that something passed its half.
 pub record KeepsCount {T C D : Type 0} (seen : D → List ℕ) (fault_count calls : D → ℕ) (result : Result T NotedStop) (old new : Noted C D) : Type 0 where
   pub counted : ℕ
   pub made : ℕ
@@ -96,24 +97,26 @@ pub record KeepsCount {T C D : Type 0} (seen : D → List ℕ) (fault_count call
   pub within : made ≤ counted
   pub whole : OnOk result ((made ≡ counted) × (fault_count (disk_of new.meta) ≡ fault_count (disk_of old.meta)))
   pub failed : IsErrOf result MetaFailed → HasRisen (fault_count (disk_of old.meta)) (fault_count (disk_of new.meta))
+  pub unfailed : IsErrOf result MetaFull → fault_count (disk_of new.meta) ≡ fault_count (disk_of old.meta)
   pub size : room_of seen new.meta ≡ room_of seen old.meta
 
 -- The calls that are counted go as far into a request as it goes that is asked next; those of the entries are counted before.
-pub record CountsInto {C D : Type 0} (seen : D → List ℕ) (old new : Noted C D) (before : HistoryState) (w : Whole) : Type 0 where
+pub record CountsInto {C D : Type 0} (seen : D → List ℕ) (calls : D → ℕ) (stop : NotedStop) (old new : Noted C D) (before : HistoryState) (w : Whole) : Type 0 where
   pub request : Request
   pub asking : Script
   pub reached : GoesOn old.store.control.grain w (agenda_of old.store.control.grain old.script) (agenda_of old.store.control.grain asking)
   pub asked : Asks old.store.control.grain (agenda_of old.store.control.grain asking) w (0, request)
   pub meter : Meter
   pub metered : Metered old.store.control.grain (room_of seen old.meta) before.entries w meter
+  pub fits : meter.full ≡ None
   pub paid : more_calls meter.calls 0 ≤ old.calls
   pub into : Meter
   pub goes : GoesInto old.store.control.grain (room_of seen old.meta) w meter request into
-  pub calls : new.calls ≡ more_calls into.calls 0
+  pub stops : StopsInto calls stop old new into
 
 -- ---- a step
 
-module _ {C D : Type 0} (seen : D → List ℕ) (may_leave : D → List ℕ → Type 0) (moment : D → ℕ) (left_since : D → ℕ → List ℕ → Type 0) where
+module _ {C D : Type 0} (seen : D → List ℕ) (may_leave : D → List ℕ → Type 0) (moment : D → ℕ) (left_since : D → ℕ → List ℕ → Type 0) (calls : D → ℕ) where
   -- On Ok it goes on. At any moment, and behind an error, what a stop leaves may be recovered; an error leaves the history as it was.
   pub record StepMade (result : Result Bool NotedStop) (old new : Noted C D) (before after : HistoryState) : Type 0 where
     pub on : IfOk result (λ more. (w : Whole) (least : List Row) → IsAt seen may_leave old before w least → GoesOnTo seen may_leave more w least old before new after)
@@ -122,7 +125,7 @@ module _ {C D : Type 0} (seen : D → List ℕ) (may_leave : D → List ℕ → 
     pub stopped : OnErr result ((w : Whole) (least : List Row) → IsAt seen may_leave old before w least →
         (after ≡ before) × HasStopped may_leave old new w least)
     pub full : IsErrOf result LogFull → 262144 ≤ length before.entries
-    pub into : IsErrOf result MetaFailed → (w : Whole) (least : List Row) → IsAt seen may_leave old before w least → CountsInto seen old new before w
+    pub into : IfErr result (λ stop. OfMetadata stop ((w : Whole) (least : List Row) → IsAt seen may_leave old before w least → CountsInto seen calls stop old new before w))
 
   -- The same of an entry that was taken out of the noted store.
   abbrev pub WayMade : Result (Unit {0}) NotedStop → Noted C D → UnderWay → Noted C D → HistoryState → HistoryState → Type 0
@@ -182,8 +185,15 @@ module _ {C D : Type 0} (seen : D → List ℕ) (may_leave : D → List ℕ → 
     pub after : IsImageAfter old.store d image
     pub named : new.named ≡ image.next_volume
     pub unmarked : new.marks.items ≡ []
-    pub used : used_of new.meta ≡ filled_size image
+    pub metered : (m : Meter) → IsMetered seen old.meta m → IsMetered seen new.meta (with_fold (room_of seen old.meta) image m)
     pub calls : new.calls ≡ more_calls 6 old.calls
+
+  -- That was to be done, and was cut short.
+  pub record TriesAnew (calls : D → ℕ) (d : Decision) (stop : NotedStop) (old new : Noted C D) : Type 0 where
+    pub image : MetaImage
+    pub after : IsImageAfter old.store d image
+    pub counted : new.calls ≡ more_calls 6 old.calls
+    pub short : IsCutShort seen calls stop old.meta new.meta (with_fold (room_of seen old.meta) image)
 
   -- Where there is no action it stays.
   abbrev pub AnewOr : Bool → Decision → Noted C D → Noted C D → Type 0

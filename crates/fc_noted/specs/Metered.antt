@@ -1,5 +1,5 @@
--- How many calls of its disk the metadata of a history costs, entry by entry.
-use Rattle.std.specs.Prelude.{◌≡◌, ◌≢◌, ℕ, ◌+◌, List, [], ◌∷◌, ◌++◌, fold, length, Option, Some, None}
+-- How many calls of its disk the metadata of a history costs, entry by entry, and how full it gets.
+use Rattle.std.specs.Prelude.{◌≡◌, ◌≢◌, ℕ, ◌+◌, ◌<◌, ◌≤◌, List, [], ◌∷◌, ◌++◌, fold, length, Option, Some, None}
 use Rattle.fc_base.specs.declared.command.Command.{Command}
 use Rattle.fc_base.specs.declared.ids.VolId.{VolId}
 use Rattle.fc_base.specs.declared.request.Place.TheVariants.{Every}
@@ -35,7 +35,7 @@ use Rattle.law_crash.specs.Points.{nothing_kept}
 abbrev pub after_action : ℕ → Meter → Action → Meter
 after_action half m (Data step) = m
 after_action half m (Note note) = with_record half note m
-after_action half m Fold = with_fold m.image m
+after_action half m Fold = with_fold half m.image m
 
 abbrev pub after_actions : ℕ → Meter → List Action → Meter
 after_actions half m actions = fold (after_action half) m actions
@@ -107,20 +107,31 @@ pub record CommandActs (grain : GrainSize) (w : Whole) (command : Command) (acti
 abbrev pub SaysAll : MetaImage → Whole → Type 0
 SaysAll image w = (lost : List LostGrains) × (kept_in image ≡ made_anew w w.rows lost)
 
+-- It makes metadata anew by an image of what is told with its entry.
+pub record MakesAnew (grain : GrainSize) (w : Whole) (command : Command) (entry : Entry) (next : Whole) (image : MetaImage) : Type 0 where
+  pub step : Step grain w entry next
+  pub every : entry.place ≡ Every
+  pub asked : entry.request ≡ Asked command
+  pub acts : CommandActs grain w command (Fold ∷ [])
+  pub says : SaysAll image next
+
 -- ---- a history
+
+-- The first image, which says nothing, passes the half with its closed gate.
+abbrev pub FirstPasses : ℕ → Type 0
+FirstPasses half = (image : MetaImage) × (kept_in image ≡ nothing_kept) × (half < 1 + filled_size image)
 
 -- What metadata was asked for behind these entries: four calls to open it, and then by each entry in its turn.
 pub data Metered (grain : GrainSize) (half : ℕ) : List Entry → Whole → Meter → Type 0 where
-  opened : (w : Whole) (image : MetaImage) → w.entries ≡ 0 → kept_in image ≡ nothing_kept →
-      Metered grain half [] w (record { image = image; used = filled_size image; calls = 4 })
+  opened : (w : Whole) (image : MetaImage) → w.entries ≡ 0 → kept_in image ≡ nothing_kept → 1 + filled_size image ≤ half →
+      Metered grain half [] w (record { image = image; generation = 1; used = filled_size image; calls = 4; full = None })
   access : (entries : List Entry) (w : Whole) (m : Meter) (entry : Entry) (next : Whole) (actions : List Action) →
       Metered grain half entries w m → Step grain w entry next → entry.place ≢ Every →
       AreActionsOf grain w (kept_in m.image).rows entry actions →
       Metered grain half (entries ++ entry ∷ []) next (after_actions half m actions)
   anew : (entries : List Entry) (w : Whole) (m : Meter) (entry : Entry) (next : Whole) (command : Command) (image : MetaImage) →
-      Metered grain half entries w m → Step grain w entry next → entry.place ≡ Every → entry.request ≡ Asked command →
-      CommandActs grain w command (Fold ∷ []) → SaysAll image next →
-      Metered grain half (entries ++ entry ∷ []) next (with_fold image m)
+      Metered grain half entries w m → MakesAnew grain w command entry next image →
+      Metered grain half (entries ++ entry ∷ []) next (with_fold half image m)
   unchanged : (entries : List Entry) (w : Whole) (m : Meter) (entry : Entry) (next : Whole) (command : Command) →
       Metered grain half entries w m → Step grain w entry next → entry.place ≡ Every → entry.request ≡ Asked command →
       CommandActs grain w command [] →
@@ -137,5 +148,5 @@ pub data GoesInto (grain : GrainSize) (half : ℕ) (w : Whole) (m : Meter) : Req
   tears : (request : Request) (front back : List DiskStep) (step : DiskStep) (torn : Torn) →
       AreStepsOf grain w request (front ++ step ∷ back) →
       GoesInto grain half w m request (after_actions half m (actions_stopped grain (kept_in m.image).rows request front step (Some torn)))
-  anew : (command : Command) (image : MetaImage) → CommandActs grain w command (Fold ∷ []) →
-      GoesInto grain half w m (Asked command) (with_fold image m)
+  anew : (command : Command) (entry : Entry) (next : Whole) (image : MetaImage) → MakesAnew grain w command entry next image →
+      GoesInto grain half w m (Asked command) (with_fold half image m)

@@ -26,8 +26,8 @@ use Rattle.fc_script.specs.declared.script.Script.{Script}
 use Rattle.fc_stands.specs.Store.{StoreView}
 use Rattle.fc_held.specs.Held.{HaveVolumes, HoldAllOf}
 use Rattle.fc_marks.specs.declared.error.NotedStop.{NotedStop}
-use Rattle.fc_marks.specs.Meter.{Meter}
-use Rattle.fc_marks.specs.declared.error.NotedStop.TheVariants.{LogFull, MetaFailed}
+use Rattle.fc_marks.specs.Meter.{HasCause, Meter}
+use Rattle.fc_marks.specs.declared.error.NotedStop.TheVariants.{LogFull, MetaFailed, MetaFull}
 use Rattle.fc_meta.specs.Answers.{more_calls}
 use Rattle.fc_meta.specs.States.{disk_of, room_of}
 use Rattle.fc_noted.specs.Metered.{GoesInto, Metered}
@@ -86,6 +86,21 @@ pub record HasStopped {C D : Type 0} (may_leave : D → List ℕ → Type 0) (ol
   pub leaves : (c : List ℕ) → may_leave new.meta.disk c →
       (image : MetaImage) × (recovered c ≡ Image image) × MayBeRecovered old.store.control.grain old.script new.named new.store.lanes w least image
 
+-- This, where the disk of metadata failed or something passed its half.
+abbrev pub OfMetadata : NotedStop → Type 0 → Type 0
+OfMetadata MetaFailed P = P
+OfMetadata MetaFull P = P
+OfMetadata stop P = Unit {0}
+
+-- The disk of metadata was called so often in all, some more often than before, and stopped for a cause that the meter has.
+pub record StopsInto {C D : Type 0} (calls : D → ℕ) (stop : NotedStop) (old new : Noted C D) (into : Meter) : Type 0 where
+  pub counted : new.calls ≡ more_calls into.calls 0
+  pub made : ℕ
+  pub called : calls (disk_of new.meta) ≡ more_calls made (calls (disk_of old.meta))
+  pub all : ℕ
+  pub in_all : more_calls made old.calls ≡ more_calls all 0
+  pub cause : HasCause stop all into
+
 -- ---- a line that isn't answered to its end
 
 -- The script goes on to something that is asked next.
@@ -112,6 +127,7 @@ pub record Leaves {C D : Type 0} (grain : GrainSize) (may_leave : D → List ℕ
 -- The entries were paid for before metadata's disk failed: it had been called so often without a fault.
 pub record Paid {C D : Type 0} (seen : D → List ℕ) (fault_count calls : D → ℕ) (grain : GrainSize) (old new : Noted C D) (next : Whole) (entries : List Entry) (meter : Meter) : Type 0 where
   pub metered : Metered grain (room_of seen new.meta) entries next meter
+  pub fits : meter.full ≡ None
   pub unfailed : ℕ
   pub disk : D
   pub called : calls disk ≡ more_calls unfailed (calls (disk_of old.meta))
@@ -119,12 +135,12 @@ pub record Paid {C D : Type 0} (seen : D → List ℕ) (fault_count calls : D �
   pub before : more_calls meter.calls 0 ≤ more_calls unfailed old.calls
 
 -- What is asked next goes so far into the calls of metadata's disk.
-pub record LeftAt {C D : Type 0} (seen : D → List ℕ) (grain : GrainSize) (new : Noted C D) (next : Whole) (left : Agenda) (meter : Meter) : Type 0 where
+pub record LeftAt {C D : Type 0} (seen : D → List ℕ) (calls : D → ℕ) (grain : GrainSize) (stop : NotedStop) (old new : Noted C D) (next : Whole) (left : Agenda) (meter : Meter) : Type 0 where
   pub request : Request
   pub asked : IsAskedSoon grain next left (Some request)
   pub into : Meter
   pub goes : GoesInto grain (room_of seen new.meta) next meter request into
-  pub calls : new.calls ≡ more_calls into.calls 0
+  pub stops : StopsInto calls stop old new into
 
 -- The first entries of an agenda were logged, for the history's limit all that there is room for; and with them it is left so.
 module _ {C D : Type 0} (seen : D → List ℕ) (may_leave : D → List ℕ → Type 0) (fault_count calls : D → ℕ) where
@@ -135,7 +151,7 @@ module _ {C D : Type 0} (seen : D → List ℕ) (may_leave : D → List ℕ → 
       × Adds before after (λ more. GoesAsking (session_rules grain read) a w more next))
   Halts grain read stop a old new w before after =
       (next : Whole) × (left : Agenda) × IsOf next after × Leaves grain may_leave new next left
-      × ((meter : Meter) × Paid seen fault_count calls grain old new next after.entries meter × ((stop ≡ MetaFailed) → LeftAt seen grain new next left meter))
+      × ((meter : Meter) × Paid seen fault_count calls grain old new next after.entries meter × OfMetadata stop (LeftAt seen calls grain stop old new next left meter))
       × Adds before after (λ more. Goes (session_rules grain read) a w more left next)
 
   -- The same of a line.

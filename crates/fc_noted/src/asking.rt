@@ -73,7 +73,7 @@ impl<D: Mdisk, M: MetaDisk> Noted<D, M> {
     /// Begins what the line asks next; false exactly where nothing is left.
     pub(crate) fn begin_next(&mut self, history: &mut History) -> Result<bool, NotedStop>
         requires begins { CanBegin M.seen M.may_leave self.old history.old }
-        ensures made { StepMade M.seen M.may_leave M.moment M.left_since result self.old self.new history.old history.new }
+        ensures made { StepMade M.seen M.may_leave M.moment M.left_since M.calls result self.old self.new history.old history.new }
         ensures full { IsErrOf result NotedStop.LogFull → (w : Whole) → StandsFor self.old.store w → AsksSome self.old.store.control.grain self.old.script w }
         ensures lanes { KeepLanes self.old.store self.new.store }
         ensures live { self.new.live ≡ self.old.live }
@@ -93,7 +93,7 @@ impl<D: Mdisk, M: MetaDisk> Noted<D, M> {
         requires next { (w : Whole) → StandsFor self.old.store w → IsNext self.old.store.control.grain w (Some asked) (agenda_of self.old.store.control.grain self.old.script) }
         requires can { CanBeAsked self.old.store asked }
         requires fill { (w : Whole) → StandsFor self.old.store w → HasNextFill self.old.store.control.grain w (work_of self.old.script) asked }
-        ensures made { StepMade M.seen M.may_leave M.moment M.left_since (always result) self.old self.new history.old history.new }
+        ensures made { StepMade M.seen M.may_leave M.moment M.left_since M.calls (always result) self.old self.new history.old history.new }
         ensures lanes { KeepLanes self.old.store self.new.store }
         ensures live { self.new.live ≡ self.old.live }
         ensures counted { KeepsCount M.seen M.fault_count M.calls result self.old self.new }
@@ -125,7 +125,7 @@ impl<D: Mdisk, M: MetaDisk> Noted<D, M> {
         requires begins { CanBegin M.seen M.may_leave self.old history.old }
         requires next { (w : Whole) → StandsFor self.old.store w → IsNext self.old.store.control.grain w (Some (Asked.Refused request refusal)) (agenda_of self.old.store.control.grain self.old.script) }
         requires can { CanBeAsked self.old.store (Asked.Refused request refusal) }
-        ensures made { StepMade M.seen M.may_leave M.moment M.left_since (always result) self.old self.new history.old history.new }
+        ensures made { StepMade M.seen M.may_leave M.moment M.left_since M.calls (always result) self.old self.new history.old history.new }
         ensures lanes { KeepLanes self.old.store self.new.store }
         ensures live { self.new.live ≡ self.old.live }
         ensures counted { KeepsCount M.seen M.fault_count M.calls result self.old self.new }
@@ -150,7 +150,7 @@ impl<D: Mdisk, M: MetaDisk> Noted<D, M> {
         requires begins { CanBegin M.seen M.may_leave self.old history.old }
         requires next { (w : Whole) → StandsFor self.old.store w → IsNext self.old.store.control.grain w (Some (Asked.Part Read volume block count grain)) (agenda_of self.old.store.control.grain self.old.script) }
         requires can { CanBeAsked self.old.store (Asked.Part Read volume block count grain) }
-        ensures made { StepMade M.seen M.may_leave M.moment M.left_since (always result) self.old self.new history.old history.new }
+        ensures made { StepMade M.seen M.may_leave M.moment M.left_since M.calls (always result) self.old self.new history.old history.new }
         ensures lanes { KeepLanes self.old.store self.new.store }
         ensures live { self.new.live ≡ self.old.live }
         ensures counted { KeepsCount M.seen M.fault_count M.calls result self.old self.new }
@@ -185,7 +185,7 @@ impl<D: Mdisk, M: MetaDisk> Noted<D, M> {
         requires begins { CanBegin M.seen M.may_leave self.old history.old }
         requires next { (w : Whole) → StandsFor self.old.store w → IsNext self.old.store.control.grain w (Some (Asked.Part (Write byte) volume block count grain)) (agenda_of self.old.store.control.grain self.old.script) }
         requires can { CanBeAsked self.old.store (Asked.Part (Write byte) volume block count grain) }
-        ensures made { StepMade M.seen M.may_leave M.moment M.left_since (always result) self.old self.new history.old history.new }
+        ensures made { StepMade M.seen M.may_leave M.moment M.left_since M.calls (always result) self.old self.new history.old history.new }
         ensures lanes { KeepLanes self.old.store self.new.store }
         ensures live { self.new.live ≡ self.old.live }
         ensures counted { KeepsCount M.seen M.fault_count M.calls result self.old self.new }
@@ -219,7 +219,7 @@ impl<D: Mdisk, M: MetaDisk> Noted<D, M> {
         requires next { (w : Whole) → StandsFor self.old.store w → IsNext self.old.store.control.grain w (Some (Asked.Fill map cleans grain)) (agenda_of self.old.store.control.grain self.old.script) }
         requires can { CanBeAsked self.old.store (Asked.Fill map cleans grain) }
         requires fill { (w : Whole) → StandsFor self.old.store w → HasNextFill self.old.store.control.grain w (work_of self.old.script) (Asked.Fill map cleans grain) }
-        ensures made { StepMade M.seen M.may_leave M.moment M.left_since (always result) self.old self.new history.old history.new }
+        ensures made { StepMade M.seen M.may_leave M.moment M.left_since M.calls (always result) self.old self.new history.old history.new }
         ensures lanes { KeepLanes self.old.store self.new.store }
         ensures live { self.new.live ≡ self.old.live }
         ensures counted { KeepsCount M.seen M.fault_count M.calls result self.old self.new }

@@ -1,6 +1,6 @@
 //! Commands.
 
-ghost use Rattle.std.specs.Prelude.{◌≡◌, ◌+◌, ◌<◌, ◌||◌, [], ℕ, List, Some, length, true, is_some, IfOk, IsErrOf, OnErr, OnOk};
+ghost use Rattle.std.specs.Prelude.{◌≡◌, ◌+◌, ◌<◌, ◌||◌, [], ℕ, List, Some, length, true, is_some, IfErr, IfOk, IsErrOf, OnErr, OnOk};
 ghost use Rattle.fc_books.specs.Deciding.{settle};
 ghost use Rattle.fc_entry.specs.HistoryState.{HistoryState};
 ghost use Rattle.fc_entry.specs.declared.entry.Entry.{Entry as EntryValue};
@@ -12,14 +12,14 @@ ghost use Rattle.fc_lane.specs.Lane.{IsAsked, IsSameLane};
 ghost use Rattle.fc_lanes.specs.AllLanes.{EachLane};
 ghost use Rattle.fc_legal.specs.Steps.{after_settling};
 ghost use Rattle.fc_legal.specs.Whole.{Whole};
-ghost use Rattle.fc_marks.specs.Meter.{filled_size};
+ghost use Rattle.fc_marks.specs.Meter.{IsCutShort, IsMetered, Meter, with_fold};
 ghost use Rattle.fc_meta.specs.Answers.{LeavesEither, more_calls};
-ghost use Rattle.fc_meta.specs.States.{IsResting, disk_of, found, used_of};
+ghost use Rattle.fc_meta.specs.States.{IsResting, disk_of, found, room_of};
 ghost use Rattle.fc_metadisk.specs.Disk.{LeavesOnly};
-ghost use Rattle.fc_noted.specs.Making.{AnewOr, CountsInto, HasActed, IsEntryOf, IsImageAfter, IsNotedWithRoom, KeepLanes, KeepsCount, LeadsOn, LeavesAnew, MayHaveActed, StepMade, WhereverNoted, always};
+ghost use Rattle.fc_noted.specs.Making.{AnewOr, CountsInto, HasActed, IsEntryOf, IsImageAfter, IsNotedWithRoom, KeepLanes, KeepsCount, LeadsOn, LeavesAnew, MayHaveActed, StepMade, TriesAnew, WhereverNoted, always};
 ghost use Rattle.fc_noted.specs.Noted.{CanBegin};
 ghost use Rattle.law_noted.specs.Records.{removed_by};
-ghost use Rattle.fc_noted.specs.Stopping.{HasStopped, LeavesRecoverable};
+ghost use Rattle.fc_noted.specs.Stopping.{HasStopped, LeavesRecoverable, OfMetadata};
 ghost use Rattle.fc_script.specs.Asking.{CanBeAsked, IsNext};
 ghost use Rattle.fc_script.specs.Script.{agenda_of};
 ghost use Rattle.fc_stands.specs.Phase.{CanPrepare, IsDecided, StandsAt};
@@ -83,7 +83,7 @@ impl<D: Mdisk, M: MetaDisk> Noted<D, M> {
         requires begins { CanBegin M.seen M.may_leave self.old history.old }
         requires next { (w : Whole) → StandsFor self.old.store w → IsNext self.old.store.control.grain w (Some (Asked.Command command)) (agenda_of self.old.store.control.grain self.old.script) }
         requires can { CanBeAsked self.old.store (Asked.Command command) }
-        ensures made { StepMade M.seen M.may_leave M.moment M.left_since (always result) self.old self.new history.old history.new }
+        ensures made { StepMade M.seen M.may_leave M.moment M.left_since M.calls (always result) self.old self.new history.old history.new }
         ensures lanes { KeepLanes self.old.store self.new.store }
         ensures live { self.new.live ≡ self.old.live }
         ensures counted { KeepsCount M.seen M.fault_count M.calls result self.old self.new }
@@ -108,7 +108,8 @@ impl<D: Mdisk, M: MetaDisk> Noted<D, M> {
         ensures kept { OnErr result ((self.new.named ≡ self.old.named) × (self.new.marks.items ≡ self.old.marks.items)) }
         ensures not_log { IsErrOf result NotedStop.LogFull → ⊥ }
         ensures calls { self.new.calls ≡ more_calls 6 self.old.calls }
-        ensures used { OnOk result (used_of self.new.meta ≡ filled_size image.now) }
+        ensures metered { OnOk result ((m : Meter) → IsMetered M.seen self.old.meta m → IsMetered M.seen self.new.meta (with_fold (room_of M.seen self.old.meta) image.now m)) }
+        ensures short { IfErr result (λ stop. IsCutShort M.seen M.calls stop self.old.meta self.new.meta (with_fold (room_of M.seen self.old.meta) image.now)) }
         ensures others { self.new ≡ record self.old { meta = self.new.meta; named = self.new.named; marks = self.new.marks; calls = self.new.calls } }
         ensures counted { KeepsCount M.seen M.fault_count M.calls result self.old self.new }
     {
@@ -128,7 +129,7 @@ impl<D: Mdisk, M: MetaDisk> Noted<D, M> {
         ensures grain { self.new.store.control.grain ≡ self.old.store.control.grain }
         ensures lanes { EachLane IsSameLane self.old.store.lanes self.new.store.lanes }
         ensures not_log { IsErrOf result NotedStop.LogFull → ⊥ }
-        ensures not_failed { IsErrOf result NotedStop.MetaFailed → ⊥ }
+        ensures not_disk { IfErr result (λ stop. OfMetadata stop ⊥) }
         ensures others { self.new ≡ record self.old { store = self.new.store } }
     {
         let settling = self.store.plan_settling()?;
@@ -148,7 +149,8 @@ impl<D: Mdisk, M: MetaDisk> Noted<D, M> {
         ensures kept { OnErr result ((self.new.named ≡ self.old.named) × (self.new.marks.items ≡ self.old.marks.items)) }
         ensures anew { OnOk result (AnewOr M.seen M.may_leave (has_action || is_some (removed_by decision.now.events)) decision.now self.old self.new) }
         ensures any_moment { LeavesOnly M.moment M.left_since (disk_of self.old.meta) (disk_of self.new.meta) (LeavesAnew M.seen M.may_leave decision.now self.old) }
-        ensures failed { IsErrOf result NotedStop.MetaFailed → ((has_action || is_some (removed_by decision.now.events)) ≡ true) × (self.new.calls ≡ more_calls 6 self.old.calls) }
+        ensures tried { IfErr result (λ stop. OfMetadata stop (((has_action || is_some (removed_by decision.now.events)) ≡ true)
+            × TriesAnew M.seen M.may_leave M.calls decision.now stop self.old self.new)) }
         ensures not_log { IsErrOf result NotedStop.LogFull → ⊥ }
         ensures others { self.new ≡ record self.old { store = self.new.store; meta = self.new.meta; named = self.new.named; marks = self.new.marks; calls = self.new.calls } }
         ensures counted { KeepsCount M.seen M.fault_count M.calls result self.old self.new }
@@ -186,8 +188,8 @@ impl<D: Mdisk, M: MetaDisk> Noted<D, M> {
         ensures any_moment { WhereverNoted M.seen M.may_leave self.old (λ history w least.
             LeavesOnly M.moment M.left_since (disk_of self.old.meta) (disk_of self.new.meta) (LeavesRecoverable self.old self.new w least)) }
         ensures stopped { WhereverNoted M.seen M.may_leave self.old (λ history w least. HasStopped M.may_leave self.old self.new w least) }
-        ensures into { IsErrOf result NotedStop.MetaFailed →
-            WhereverNoted M.seen M.may_leave self.old (λ history w least. CountsInto M.seen self.old self.new history w) }
+        ensures into { IfErr result (λ stop. OfMetadata stop (
+            WhereverNoted M.seen M.may_leave self.old (λ history w least. CountsInto M.seen M.calls stop self.old self.new history w))) }
         ensures not_log { IsErrOf result NotedStop.LogFull → ⊥ }
         ensures grain { OnOk result (self.new.store.control.grain ≡ self.old.store.control.grain) }
         ensures lanes { EachLane IsSameLane self.old.store.lanes self.new.store.lanes }
@@ -212,8 +214,8 @@ impl<D: Mdisk, M: MetaDisk> Noted<D, M> {
         ensures any_moment { WhereverNoted M.seen M.may_leave self.old (λ history w least.
             LeavesOnly M.moment M.left_since (disk_of self.old.meta) (disk_of self.new.meta) (LeavesRecoverable self.old self.new w least)) }
         ensures stopped { WhereverNoted M.seen M.may_leave self.old (λ history w least. HasStopped M.may_leave self.old self.new w least) }
-        ensures into { IsErrOf result NotedStop.MetaFailed →
-            WhereverNoted M.seen M.may_leave self.old (λ history w least. CountsInto M.seen self.old self.new history w) }
+        ensures into { IfErr result (λ stop. OfMetadata stop (
+            WhereverNoted M.seen M.may_leave self.old (λ history w least. CountsInto M.seen M.calls stop self.old self.new history w))) }
         ensures not_log { IsErrOf result NotedStop.LogFull → ⊥ }
         ensures grain { OnOk result (self.new.store.control.grain ≡ self.old.store.control.grain) }
         ensures lanes { EachLane IsSameLane self.old.store.lanes self.new.store.lanes }

@@ -16,6 +16,7 @@ ghost use Rattle.fc_meta.specs.States.{room_of};
 ghost use Rattle.fc_format.specs.Halves.{half_size};
 ghost use Rattle.fc_metadisk.specs.Disk.{LeavesOnly, Only};
 ghost use Rattle.fc_held.specs.Held.{HaveVolumes, HoldAllOf};
+ghost use Rattle.fc_noted.specs.Metered.{FirstPasses};
 ghost use Rattle.fc_noted.specs.Noted.{BeginsOver, IsNotedAt, NoHistory};
 ghost use Rattle.fc_noted.specs.Stopping.{LeavesFirst, opened_meta, over_meta};
 ghost use Rattle.fc_script.specs.Passage.{GoesOn};
@@ -122,6 +123,7 @@ impl<D: Mdisk, M: MetaDisk> Noted<D, M> {
             × (room_of M.seen n.meta ≡ half_size (M.seen disk))) }
         ensures within { IfErr result (λ e. e.2 ≡ NotedStop.MetaFailed → IsCalledUpTo 4 (M.calls disk) (M.calls e.1)) }
         ensures failed { IfErr result (λ e. e.2 ≡ NotedStop.MetaFailed → HasRisen (M.fault_count disk) (M.fault_count e.1)) }
+        ensures full { IfErr result (λ e. e.2 ≡ NotedStop.MetaFull → FirstPasses (half_size (M.seen disk))) }
         ensures back { IfErr result (λ e. e.0 ≡ store) }
         ensures not_log { IfErr result (λ e. e.2 ≢ NotedStop.LogFull) }
     {

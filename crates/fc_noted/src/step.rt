@@ -7,7 +7,7 @@ ghost use Rattle.fc_format.specs.Halves.{Image};
 ghost use Rattle.fc_format.specs.Ranges.{HasGoodIds};
 ghost use Rattle.fc_image.specs.declared.image.MetaImage.{MetaImage as ImageValue};
 ghost use Rattle.fc_legal.specs.Whole.{Whole};
-ghost use Rattle.fc_marks.specs.Meter.{IsMetered, Meter, with_record};
+ghost use Rattle.fc_marks.specs.Meter.{IsCutShort, IsMetered, Meter, with_record};
 ghost use Rattle.fc_meta.specs.Answers.{LeavesEither, found_with, more_calls};
 ghost use Rattle.fc_meta.specs.States.{IsResting, disk_of, found, room_of};
 ghost use Rattle.fc_metadisk.specs.Disk.{LeavesOnly};
@@ -72,14 +72,14 @@ impl<D: Mdisk, M: MetaDisk> Noted<D, M> {
     /// the next step of an entry; finishes an entry and logs it; or begins the next one, which is logged at once where it has no
     /// steps. A command is done and logged in one step, with metadata made anew. False exactly where nothing of the line is left.
     ///
-    /// A step calls either the disks of data or that of metadata; a move that copies nothing calls that of metadata alone. Wherever a stop falls in it, what is then on the disks may be
-    /// recovered (`LeavesRecoverable`).
+    /// A step calls either the disks of data or that of metadata; a move that copies nothing calls that of metadata alone. Wherever
+    /// a stop falls in it, what is then on the disks may be recovered (`LeavesRecoverable`).
     ///
     /// LogFull where one more entry would pass the greatest number, MetaFailed where a call of the disk of metadata failed, MetaFull
     /// where metadata don't fit it, NoMemory where memory was wanted. Behind each of them no step may be made any more.
     pub fn make_step(&mut self, history: &mut History) -> Result<bool, NotedStop>
         requires can { CanStep M.seen M.may_leave self.old history.old }
-        ensures made { StepMade M.seen M.may_leave M.moment M.left_since result self.old self.new history.old history.new }
+        ensures made { StepMade M.seen M.may_leave M.moment M.left_since M.calls result self.old self.new history.old history.new }
         ensures full { IsErrOf result NotedStop.LogFull → (w : Whole) (least : List Row) → IsAt M.seen M.may_leave self.old history.old w least → AsksSome self.old.store.control.grain self.old.script w }
         ensures lanes { KeepLanes self.old.store self.new.store }
         ensures live { IsTrue self.new.live ↔ OnErr result ⊥ }
@@ -95,7 +95,7 @@ impl<D: Mdisk, M: MetaDisk> Noted<D, M> {
     /// The same, whatever it leaves of `live`.
     fn step(&mut self, history: &mut History) -> Result<bool, NotedStop>
         requires can { CanStep M.seen M.may_leave self.old history.old }
-        ensures made { StepMade M.seen M.may_leave M.moment M.left_since result self.old self.new history.old history.new }
+        ensures made { StepMade M.seen M.may_leave M.moment M.left_since M.calls result self.old self.new history.old history.new }
         ensures full { IsErrOf result NotedStop.LogFull → (w : Whole) (least : List Row) → IsAt M.seen M.may_leave self.old history.old w least → AsksSome self.old.store.control.grain self.old.script w }
         ensures lanes { KeepLanes self.old.store self.new.store }
         ensures live { self.new.live ≡ self.old.live }
@@ -116,7 +116,7 @@ impl<D: Mdisk, M: MetaDisk> Noted<D, M> {
         requires taken { self.old.under_way ≡ None }
         requires live { self.old.live ≡ true }
         requires room { length history.old.entries ≤ 262144 }
-        ensures made { WayMade M.seen M.may_leave M.moment M.left_since result self.old way self.new history.old history.new }
+        ensures made { WayMade M.seen M.may_leave M.moment M.left_since M.calls result self.old way self.new history.old history.new }
         ensures lanes { KeepLanes self.old.store self.new.store }
         ensures live { self.new.live ≡ self.old.live }
         ensures counted { KeepsCount M.seen M.fault_count M.calls result self.old self.new }
@@ -143,6 +143,7 @@ impl<D: Mdisk, M: MetaDisk> Noted<D, M> {
         ensures metered { OnOk result ((m : Meter) → IsMetered M.seen self.old.meta m → IsMetered M.seen self.new.meta (with_record (room_of M.seen self.old.meta) note m)) }
         ensures calls { (m : Meter) → IsMetered M.seen self.old.meta m → self.old.calls ≡ more_calls m.calls 0 →
             self.new.calls ≡ more_calls (with_record (room_of M.seen self.old.meta) note m).calls 0 }
+        ensures short { IfErr result (λ stop. IsCutShort M.seen M.calls stop self.old.meta self.new.meta (with_record (room_of M.seen self.old.meta) note)) }
         ensures counted { KeepsCount M.seen M.fault_count M.calls result self.old self.new }
         ensures others { self.new ≡ record self.old { meta = self.new.meta; calls = self.new.calls } }
     {
@@ -156,7 +157,7 @@ impl<D: Mdisk, M: MetaDisk> Noted<D, M> {
         requires at { (w : Whole) × (least : List Row) × (history : HistoryState) × IsDoing M.seen M.may_leave self.old way history w least }
         requires live { self.old.live ≡ true }
         requires due { way.due ≡ Some note }
-        ensures made { (history : HistoryState) → WayMade M.seen M.may_leave M.moment M.left_since result self.old way self.new history history }
+        ensures made { (history : HistoryState) → WayMade M.seen M.may_leave M.moment M.left_since M.calls result self.old way self.new history history }
         ensures lanes { KeepLanes self.old.store self.new.store }
         ensures live { self.new.live ≡ self.old.live }
         ensures counted { KeepsCount M.seen M.fault_count M.calls result self.old self.new }
@@ -195,7 +196,7 @@ impl<D: Mdisk, M: MetaDisk> Noted<D, M> {
         requires live { self.old.live ≡ true }
         requires due { way.due ≡ None }
         requires next { next_of way.doing.steps ≡ NextMove mv }
-        ensures made { (history : HistoryState) → WayMade M.seen M.may_leave M.moment M.left_since result self.old way self.new history history }
+        ensures made { (history : HistoryState) → WayMade M.seen M.may_leave M.moment M.left_since M.calls result self.old way self.new history history }
         ensures lanes { KeepLanes self.old.store self.new.store }
         ensures live { self.new.live ≡ self.old.live }
         ensures counted { KeepsCount M.seen M.fault_count M.calls result self.old self.new }
@@ -231,7 +232,7 @@ impl<D: Mdisk, M: MetaDisk> Noted<D, M> {
         requires live { self.old.live ≡ true }
         requires due { way.due ≡ None }
         requires next { next_of way.doing.steps ≡ Own part }
-        ensures made { (history : HistoryState) → WayMade M.seen M.may_leave M.moment M.left_since result self.old way self.new history history }
+        ensures made { (history : HistoryState) → WayMade M.seen M.may_leave M.moment M.left_since M.calls result self.old way self.new history history }
         ensures lanes { KeepLanes self.old.store self.new.store }
         ensures live { self.new.live ≡ self.old.live }
         ensures counted { KeepsCount M.seen M.fault_count M.calls result self.old self.new }
@@ -258,7 +259,7 @@ impl<D: Mdisk, M: MetaDisk> Noted<D, M> {
         requires next { next_of way.doing.steps ≢ Over }
         requires marked { IsMarkedNext self.old way }
         requires copies { CopiesNext self.old way }
-        ensures made { (history : HistoryState) → WayMade M.seen M.may_leave M.moment M.left_since done self.old way self.new history history }
+        ensures made { (history : HistoryState) → WayMade M.seen M.may_leave M.moment M.left_since M.calls done self.old way self.new history history }
         ensures lanes { KeepLanes self.old.store self.new.store }
         ensures live { self.new.live ≡ self.old.live }
         ensures counted { KeepsCount M.seen M.fault_count M.calls done self.old self.new }
@@ -282,7 +283,7 @@ impl<D: Mdisk, M: MetaDisk> Noted<D, M> {
         requires due { way.due ≡ None }
         requires over { next_of way.doing.steps ≡ Over }
         requires taken { self.old.under_way ≡ None }
-        ensures made { WayMade M.seen M.may_leave M.moment M.left_since result self.old way self.new history.old history.new }
+        ensures made { WayMade M.seen M.may_leave M.moment M.left_since M.calls result self.old way self.new history.old history.new }
         ensures lanes { KeepLanes self.old.store self.new.store }
         ensures live { self.new.live ≡ self.old.live }
         ensures counted { KeepsCount M.seen M.fault_count M.calls result self.old self.new }

@@ -28,7 +28,7 @@ ready_lane-requires g c = record { stands = (c.requires.begins.w, c.requires.beg
 
 pub returns-in_err-place-clause-made : goal.returns-in_err-place-clause-made
 returns-in_err-place-clause-made g c =
-    unready_made g.M.MetaDisk.seen g.M.MetaDisk.may_leave g.M.MetaDisk.moment g.M.MetaDisk.left_since g.met.M.MetaDisk.only_now c.args.self.now c.args.history.now c.requires.begins c.ready_lane.new.self c.ready_lane.ensures.kept
+    unready_made g.M.MetaDisk.seen g.M.MetaDisk.may_leave g.M.MetaDisk.moment g.M.MetaDisk.left_since g.M.MetaDisk.calls g.met.M.MetaDisk.only_now c.args.self.now c.args.history.now c.requires.begins c.ready_lane.new.self c.ready_lane.ensures.kept
     c.in_err-place.field-0.0 c.in_err-place.ensures.stopped c.from_residual.result c.from_residual.ensures.1
 
 pub begin_fill-doing-requires-clause-there : goal.begin_fill-doing-requires-clause-there
@@ -61,8 +61,8 @@ returns-clause-made g c =
     let store = c.begin_fill-doing.new.self in
     let grain : GrainSize = old.store.control.grain in
     let Begins : Worker → Type 0 = λ worker. HasBegun (lane_in c.ready_lane.new.self place) c.len.result 0 (ask_of worker c.args.map c.args.grain) doing (lane_in store place) in
-    subst (λ n. StepMade g.M.MetaDisk.seen g.M.MetaDisk.may_leave g.M.MetaDisk.moment g.M.MetaDisk.left_since (Ok true) old n history history) (sym c.take_up.ensures)
-    (begun_made g.M.MetaDisk.seen g.M.MetaDisk.may_leave g.M.MetaDisk.moment g.M.MetaDisk.left_since g.met.M.MetaDisk.only_now old history c.requires.begins c.ready_lane.new.self c.ready_lane.ensures.kept
+    subst (λ n. StepMade g.M.MetaDisk.seen g.M.MetaDisk.may_leave g.M.MetaDisk.moment g.M.MetaDisk.left_since g.M.MetaDisk.calls (Ok true) old n history history) (sym c.take_up.ensures)
+    (begun_made g.M.MetaDisk.seen g.M.MetaDisk.may_leave g.M.MetaDisk.moment g.M.MetaDisk.left_since g.M.MetaDisk.calls g.met.M.MetaDisk.only_now old history c.requires.begins c.ready_lane.new.self c.ready_lane.ensures.kept
     place c.len.result c.in_ok-place.ensures.ready.inside (ask_of (worker_of c.args.cleans) c.args.map c.args.grain) doing store (subst Begins c.worker_of-worker.ensures c.begin_fill-doing.ensures.begun) c.len.ensures
     c.begin_fill-doing.ensures.others
     (λ w up. subst (λ (r : Request). Asks grain (agenda_of grain old.script) w (0, r)) (fill_request c.args.cleans c.args.map c.args.grain) (c.requires.next w up))

@@ -20,7 +20,7 @@ next-requires-clause-fits g c = c.requires.begins.at.fits
 pub returns-in_err-next-clause-made : goal.returns-in_err-next-clause-made
 returns-in_err-next-clause-made g c =
     let p = err_from_is_err_and c.from_residual.result c.from_residual.ensures.1 in
-    rw (p.1, p.2) (wanted_next g.M.MetaDisk.seen g.M.MetaDisk.may_leave g.M.MetaDisk.moment g.M.MetaDisk.left_since g.met.M.MetaDisk.only_now c.args.self.now c.next.new.self c.args.history.now c.requires.begins.at.idle c.requires.begins.room)
+    rw (p.1, p.2) (wanted_next g.M.MetaDisk.seen g.M.MetaDisk.may_leave g.M.MetaDisk.moment g.M.MetaDisk.left_since g.M.MetaDisk.calls g.met.M.MetaDisk.only_now c.args.self.now c.next.new.self c.args.history.now c.requires.begins.at.idle c.requires.begins.room)
 
 pub begin-requires-clause-begins : goal.begin-requires-clause-begins
 begin-requires-clause-begins g c =
@@ -29,7 +29,7 @@ begin-requires-clause-begins g c =
       live = begins.live;
       w = begins.w;
       least = begins.least;
-      at = script_noted g.M.MetaDisk.seen g.M.MetaDisk.may_leave g.M.MetaDisk.moment g.M.MetaDisk.left_since g.met.M.MetaDisk.only_now c.args.self.now c.next.new.self c.args.history.now begins.at.idle c.in_ok-next.ensures.goes
+      at = script_noted g.M.MetaDisk.seen g.M.MetaDisk.may_leave g.M.MetaDisk.moment g.M.MetaDisk.left_since g.M.MetaDisk.calls g.met.M.MetaDisk.only_now c.args.self.now c.next.new.self c.args.history.now begins.at.idle c.in_ok-next.ensures.goes
           c.in_ok-next.ensures.fits begins.w begins.least begins.at;
       room = begins.room;
     }
@@ -47,16 +47,16 @@ begin-requires-clause-fill g c = λ w up. c.in_ok-next.ensures.fill c.in-Some.as
 pub returns-in_err-begin-in-Some-clause-made : goal.returns-in_err-begin-in-Some-clause-made
 returns-in_err-begin-in-Some-clause-made g c =
     let p = err_from_is_err_and c.from_residual-in_err-begin-in-Some.result c.from_residual-in_err-begin-in-Some.ensures.1 in
-    rw (p.1, p.2) (made_behind g.M.MetaDisk.seen g.M.MetaDisk.may_leave g.M.MetaDisk.moment g.M.MetaDisk.left_since g.met.M.MetaDisk.only_now c.args.self.now c.next.new.self c.args.history.now c.requires.begins.at.idle c.in_ok-next.ensures.goes c.in_ok-next.ensures.fits (Err c.in_err-begin-in-Some.field-0.0) c.begin.new.self c.begin.new.history c.in_err-begin-in-Some.ensures.made)
+    rw (p.1, p.2) (made_behind g.M.MetaDisk.seen g.M.MetaDisk.may_leave g.M.MetaDisk.moment g.M.MetaDisk.left_since g.M.MetaDisk.calls g.met.M.MetaDisk.only_now c.args.self.now c.next.new.self c.args.history.now c.requires.begins.at.idle c.in_ok-next.ensures.goes c.in_ok-next.ensures.fits (Err c.in_err-begin-in-Some.field-0.0) c.begin.new.self c.begin.new.history c.in_err-begin-in-Some.ensures.made)
 
 pub returns-in-None-clause-made : goal.returns-in-None-clause-made
 returns-in-None-clause-made g c =
-    nothing_next g.M.MetaDisk.seen g.M.MetaDisk.may_leave g.M.MetaDisk.moment g.M.MetaDisk.left_since g.met.M.MetaDisk.only_now c.args.self.now c.next.new.self c.args.history.now c.requires.begins.at.idle c.in_ok-next.ensures.goes c.in_ok-next.ensures.fits c.requires.begins.live c.requires.begins.room
+    nothing_next g.M.MetaDisk.seen g.M.MetaDisk.may_leave g.M.MetaDisk.moment g.M.MetaDisk.left_since g.M.MetaDisk.calls g.met.M.MetaDisk.only_now c.args.self.now c.next.new.self c.args.history.now c.requires.begins.at.idle c.in_ok-next.ensures.goes c.in_ok-next.ensures.fits c.requires.begins.live c.requires.begins.room
     (λ w up. subst (λ (o : Option Asked). IsNext c.args.self.now.store.control.grain w o (agenda_of c.args.self.now.store.control.grain c.next.new.self)) c.in-None.is (c.in_ok-next.ensures.next w up))
 
 pub returns-in_ok-begin-in-Some-clause-made : goal.returns-in_ok-begin-in-Some-clause-made
 returns-in_ok-begin-in-Some-clause-made g c =
-    made_behind g.M.MetaDisk.seen g.M.MetaDisk.may_leave g.M.MetaDisk.moment g.M.MetaDisk.left_since g.met.M.MetaDisk.only_now c.args.self.now c.next.new.self c.args.history.now c.requires.begins.at.idle c.in_ok-next.ensures.goes c.in_ok-next.ensures.fits (Ok true) c.begin.new.self c.begin.new.history c.in_ok-begin-in-Some.ensures.made
+    made_behind g.M.MetaDisk.seen g.M.MetaDisk.may_leave g.M.MetaDisk.moment g.M.MetaDisk.left_since g.M.MetaDisk.calls g.met.M.MetaDisk.only_now c.args.self.now c.next.new.self c.args.history.now c.requires.begins.at.idle c.in_ok-next.ensures.goes c.in_ok-next.ensures.fits (Ok true) c.begin.new.self c.begin.new.history c.in_ok-begin-in-Some.ensures.made
 
 pub returns-in_err-begin-in-Some-clause-full : goal.returns-in_err-begin-in-Some-clause-full
 returns-in_err-begin-in-Some-clause-full g c = λ is w up. (

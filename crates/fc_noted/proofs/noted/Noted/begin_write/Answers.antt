@@ -24,7 +24,7 @@ ready_lane-requires g c = record { stands = (c.requires.begins.w, c.requires.beg
 
 pub returns-in_err-place-clause-made : goal.returns-in_err-place-clause-made
 returns-in_err-place-clause-made g c =
-    unready_made g.M.MetaDisk.seen g.M.MetaDisk.may_leave g.M.MetaDisk.moment g.M.MetaDisk.left_since g.met.M.MetaDisk.only_now c.args.self.now c.args.history.now c.requires.begins c.ready_lane.new.self c.ready_lane.ensures.kept
+    unready_made g.M.MetaDisk.seen g.M.MetaDisk.may_leave g.M.MetaDisk.moment g.M.MetaDisk.left_since g.M.MetaDisk.calls g.met.M.MetaDisk.only_now c.args.self.now c.args.history.now c.requires.begins c.ready_lane.new.self c.ready_lane.ensures.kept
     c.in_err-place.field-0.0 c.in_err-place.ensures.stopped c.from_residual.result c.from_residual.ensures.1
 
 pub blocks_in-first-requires-clause-begins : goal.blocks_in-first-requires-clause-begins
@@ -63,8 +63,8 @@ returns-in-UnderWay-clause-made g c =
     let history = c.args.history.now in
     let part : WritePart = record { volume = c.args.volume; block = c.blocks_in-first.result.0; count = c.blocks_in-first.result.1; byte = c.args.byte } in
     let r = blocks g (goal.at.returns-in-UnderWay-clause-made g c).After-len in
-    subst (λ n. StepMade g.M.MetaDisk.seen g.M.MetaDisk.may_leave g.M.MetaDisk.moment g.M.MetaDisk.left_since (Ok true) old n history history) (sym c.take_up.ensures)
-    (begun_made g.M.MetaDisk.seen g.M.MetaDisk.may_leave g.M.MetaDisk.moment g.M.MetaDisk.left_since g.met.M.MetaDisk.only_now old history c.requires.begins c.ready_lane.new.self c.ready_lane.ensures.kept
+    subst (λ n. StepMade g.M.MetaDisk.seen g.M.MetaDisk.may_leave g.M.MetaDisk.moment g.M.MetaDisk.left_since g.M.MetaDisk.calls (Ok true) old n history history) (sym c.take_up.ensures)
+    (begun_made g.M.MetaDisk.seen g.M.MetaDisk.may_leave g.M.MetaDisk.moment g.M.MetaDisk.left_since g.M.MetaDisk.calls g.met.M.MetaDisk.only_now old history c.requires.begins c.ready_lane.new.self c.ready_lane.ensures.kept
     c.in_ok-place.place c.len.result c.in_ok-place.ensures.ready.inside (WriteAsk part) c.in-UnderWay.doing c.begin_write.new.self c.in-UnderWay.ensures.begun c.len.ensures c.in-UnderWay.ensures.others
     (λ w up. asks_blocks r (Write c.args.byte) (agenda_of old.store.control.grain old.script) w (c.requires.next w up)) (λ w up. access_in_volume r w up (Write c.args.byte)) c.in_ok-place.ensures.room)
 
@@ -89,8 +89,8 @@ returns-in-Answered-clause-made g c =
     let history = c.args.history.now in
     let begun = c.in-Answered.ensures.begun in
     let at = goal.at.returns-in-Answered-clause-made g c in
-    subst (λ n. StepMade g.M.MetaDisk.seen g.M.MetaDisk.may_leave g.M.MetaDisk.moment g.M.MetaDisk.left_since (always c.log_entry.result) old n history c.log_entry.new.history) (sym c.log_entry.ensures.others)
-    (idle_made g.M.MetaDisk.seen g.M.MetaDisk.may_leave g.M.MetaDisk.moment g.M.MetaDisk.left_since g.met.M.MetaDisk.only_now old history c.requires.begins c.in_ok-place.ensures.room
+    subst (λ n. StepMade g.M.MetaDisk.seen g.M.MetaDisk.may_leave g.M.MetaDisk.moment g.M.MetaDisk.left_since g.M.MetaDisk.calls (always c.log_entry.result) old n history c.log_entry.new.history) (sym c.log_entry.ensures.others)
+    (idle_made g.M.MetaDisk.seen g.M.MetaDisk.may_leave g.M.MetaDisk.moment g.M.MetaDisk.left_since g.M.MetaDisk.calls g.met.M.MetaDisk.only_now old history c.requires.begins c.in_ok-place.ensures.room
     (answered g at.In-Answered (blocks g at.After-len)) begun.1 begun.2 begun.3
     c.log_entry.new.self.script c.log_entry.result c.log_entry.new.history c.requires.next c.log_entry.ensures.logged c.log_entry.ensures.goes c.log_entry.ensures.unlogged c.log_entry.ensures.stop)
 

@@ -11,13 +11,13 @@ use Rattle.fc_noted.proofs.noted.Noted.command.Goals as goal
 
 pub returns-then-is_full-clause-made : goal.returns-then-is_full-clause-made
 returns-then-is_full-clause-made g c =
-    full_made g.M.MetaDisk.seen g.M.MetaDisk.may_leave g.M.MetaDisk.moment g.M.MetaDisk.left_since g.met.M.MetaDisk.only_now c.args.self.now c.args.history.now c.requires.begins.at.idle c.requires.begins.room c.if-is_full.ensures.full
+    full_made g.M.MetaDisk.seen g.M.MetaDisk.may_leave g.M.MetaDisk.moment g.M.MetaDisk.left_since g.M.MetaDisk.calls g.met.M.MetaDisk.only_now c.args.self.now c.args.history.now c.requires.begins.at.idle c.requires.begins.room c.if-is_full.ensures.full
 
 pub returns-in_err-entry-clause-made : goal.returns-in_err-entry-clause-made
 returns-in_err-entry-clause-made g c =
     let p = err_from_is_err_and c.from_residual.result c.from_residual.ensures.1 in
     rw (p.1, p.2) (
-    undone_made g.M.MetaDisk.seen g.M.MetaDisk.may_leave g.M.MetaDisk.moment g.M.MetaDisk.left_since c.args.self.now c.command_entry.new.self c.args.history.now c.requires.begins.at.idle c.if-is_full.ensures.room
+    undone_made g.M.MetaDisk.seen g.M.MetaDisk.may_leave g.M.MetaDisk.moment g.M.MetaDisk.left_since g.M.MetaDisk.calls c.args.self.now c.command_entry.new.self c.args.history.now c.requires.begins.at.idle c.if-is_full.ensures.room
     c.command_entry.ensures.any_moment c.command_entry.ensures.stopped c.in_err-entry.field-0.0 (λ e. c.in_err-entry.ensures.not_log (ap (λ (z : NotedStop). Err z) e)) (λ e. c.in_err-entry.ensures.into (ap (λ (z : NotedStop). Err z) e))
     )
 
@@ -28,7 +28,7 @@ log_entry-requires-clause-stands g c =
 
 pub returns-clause-made : goal.returns-clause-made
 returns-clause-made g c =
-    command_numbered g.M.MetaDisk.seen g.M.MetaDisk.may_leave g.M.MetaDisk.moment g.M.MetaDisk.left_since c.args.self.now c.command_entry.new.self c.args.history.now c.requires.begins.at.idle c.if-is_full.ensures.room
+    command_numbered g.M.MetaDisk.seen g.M.MetaDisk.may_leave g.M.MetaDisk.moment g.M.MetaDisk.left_since g.M.MetaDisk.calls c.args.self.now c.command_entry.new.self c.args.history.now c.requires.begins.at.idle c.if-is_full.ensures.room
     c.command_entry.ensures.any_moment c.command_entry.ensures.stopped c.log_entry.new.self.script c.in_ok-entry.entry c.args.command (c.in_ok-entry.ensures.leads c.args.history.now c.if-is_full.ensures.room)
     c.in_ok-entry.ensures.asked c.requires.next c.in_ok-entry.ensures.grain c.command_entry.ensures.script (c.command_entry.ensures.live ∙ c.requires.begins.live) c.len.result c.len.ensures c.log_entry.new.self
     c.log_entry.ensures.others c.log_entry.result c.log_entry.new.history c.log_entry.ensures.logged c.log_entry.ensures.goes c.log_entry.ensures.unlogged c.log_entry.ensures.stop

@@ -11,7 +11,7 @@ use Rattle.fc_noted.proofs.noted.Noted.data_step.Goals as goal
 
 pub returns-clause-made : goal.returns-clause-made
 returns-clause-made g c =
-    data_made_by g.M.MetaDisk.seen g.M.MetaDisk.may_leave g.M.MetaDisk.moment g.M.MetaDisk.left_since g.met.M.MetaDisk.only_now c.args.self.now c.args.way c.requires.due c.requires.live c.step-end.result c.step-end.new.doing c.step-end.new.self
+    data_made_by g.M.MetaDisk.seen g.M.MetaDisk.may_leave g.M.MetaDisk.moment g.M.MetaDisk.left_since g.M.MetaDisk.calls g.met.M.MetaDisk.only_now c.args.self.now c.args.way c.requires.due c.requires.live c.step-end.result c.step-end.new.doing c.step-end.new.self
     c.step-end.ensures.step c.step-end.ensures.others c.requires.next c.requires.marked c.requires.copies c.record_after-due.result
     (c.record_after-due.ensures ∙ ap (λ (z : Next). record_after z c.step-end.result c.args.way.doing.steps.grain) c.next-next.ensures)
 

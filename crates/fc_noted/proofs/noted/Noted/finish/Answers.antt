@@ -23,7 +23,7 @@ pub returns-clause-made : goal.returns-clause-made
 returns-clause-made g c =
     let x = told_of _ _ c.args.way.doing c.finish-entry.result c.finish-entry.ensures.told in
     finish_made g.M.MetaDisk.seen g.M.MetaDisk.may_leave c.args.self.now c.args.way c.requires.due c.requires.over c.finish-entry.new.self c.finish-entry.result x (omega arith)
-    c.finish-entry.ensures.entry c.finish-entry.ensures.grains c.finish-entry.ensures.others g.M.MetaDisk.moment g.M.MetaDisk.left_since g.met.M.MetaDisk.only_now c.requires.live c.requires.taken
+    c.finish-entry.ensures.entry c.finish-entry.ensures.grains c.finish-entry.ensures.others g.M.MetaDisk.moment g.M.MetaDisk.left_since g.M.MetaDisk.calls g.met.M.MetaDisk.only_now c.requires.live c.requires.taken
     c.forget_noted.new.marks (c.forget_noted.ensures ∙ ap (λ (o : Option VolId). marks_left o c.args.way.doing.steps.grain c.args.self.now.marks.items) c.volume_noted-written.ensures) c.log_entry.new.self c.log_entry.ensures.others c.log_entry.result c.args.history.now c.log_entry.new.history
     c.log_entry.ensures.logged c.log_entry.ensures.goes c.log_entry.ensures.unlogged c.log_entry.ensures.stop
 

@@ -14,14 +14,14 @@ use Rattle.fc_noted.proofs.noted.Noted.make_move.Goals as goal
 pub returns-in_err-put-clause-made : goal.returns-in_err-put-clause-made
 returns-in_err-put-clause-made g c history =
     let p = err_from_is_err_and c.from_residual.result c.from_residual.ensures.1 in
-    subst (λ n. WayMade g.M.MetaDisk.seen g.M.MetaDisk.may_leave g.M.MetaDisk.moment g.M.MetaDisk.left_since c.from_residual.result c.args.self.now c.args.way n history history) (sym c.in_err-put.ensures.others)
-    (alone_failed g.M.MetaDisk.seen g.M.MetaDisk.may_leave g.M.MetaDisk.moment g.M.MetaDisk.left_since g.met.M.MetaDisk.counts_now c.args.self.now c.args.way c.args.mv c.requires.due c.requires.live c.requires.next
+    subst (λ n. WayMade g.M.MetaDisk.seen g.M.MetaDisk.may_leave g.M.MetaDisk.moment g.M.MetaDisk.left_since g.M.MetaDisk.calls c.from_residual.result c.args.self.now c.args.way n history history) (sym c.in_err-put.ensures.others)
+    (alone_failed g.M.MetaDisk.seen g.M.MetaDisk.may_leave g.M.MetaDisk.moment g.M.MetaDisk.left_since g.M.MetaDisk.calls g.met.M.MetaDisk.counts_now c.args.self.now c.args.way c.args.mv c.requires.due c.requires.live c.requires.next
     (sym c.copies_nothing.ensures ∙ c.if-not-copies_nothing.false) c.put.new.self.meta c.put.new.self.calls c.in_err-put.ensures.calls c.in_err-put.ensures.any_moment
     c.from_residual.result p.0 c.in_err-put.field-0.0 p.1 p.2 (λ e. c.in_err-put.ensures.not_log (ap (λ (z : NotedStop). Err z) e)) history)
 
 pub returns-clause-made : goal.returns-clause-made
 returns-clause-made g c =
-    alone_made_by g.M.MetaDisk.seen g.M.MetaDisk.may_leave g.M.MetaDisk.moment g.M.MetaDisk.left_since g.met.M.MetaDisk.counts_now c.args.self.now c.args.way c.args.mv c.requires.due c.requires.live c.requires.next
+    alone_made_by g.M.MetaDisk.seen g.M.MetaDisk.may_leave g.M.MetaDisk.moment g.M.MetaDisk.left_since g.M.MetaDisk.calls g.met.M.MetaDisk.counts_now c.args.self.now c.args.way c.args.mv c.requires.due c.requires.live c.requires.next
     (sym c.copies_nothing.ensures ∙ c.if-not-copies_nothing.false) c.put.new.self.meta c.put.new.self.calls c.in_ok-put.ensures.calls c.in_ok-put.ensures.any_moment
     c.put.new.self c.in_ok-put.ensures.others c.step.result c.step.new.doing c.step.new.self c.step.ensures.step c.step.ensures.others
     c.in_ok-put.ensures.rests c.in_ok-put.ensures.found c.in_ok-put.ensures.counted.size c.in_ok-put.ensures.metered

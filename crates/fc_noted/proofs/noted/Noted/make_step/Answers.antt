@@ -6,7 +6,7 @@ use Rattle.fc_noted.proofs.noted.Noted.make_step.Goals as goal
 
 pub returns-then-is_err-clause-made : goal.returns-then-is_err-clause-made
 returns-then-is_err-clause-made g c =
-    step_ended g.M.MetaDisk.seen g.M.MetaDisk.may_leave g.M.MetaDisk.moment g.M.MetaDisk.left_since c.args.self.now c.step-made.new.self c.args.history.now c.step-made.new.history
+    step_ended g.M.MetaDisk.seen g.M.MetaDisk.may_leave g.M.MetaDisk.moment g.M.MetaDisk.left_since g.M.MetaDisk.calls c.args.self.now c.step-made.new.self c.args.history.now c.step-made.new.history
     c.step-made.result (sym c.is_err.ensures.value ∙ c.if-is_err.true) c.step-made.ensures.made
 
 pub returns-then-is_err-clause-counted : goal.returns-then-is_err-clause-counted

@@ -16,7 +16,7 @@ use Rattle.fc_noted.proofs.noted.Noted.own.Goals as goal
 pub returns-in_err-remember-clause-made : goal.returns-in_err-remember-clause-made
 returns-in_err-remember-clause-made g c history =
     let p = err_from_is_err_and c.from_residual.result c.from_residual.ensures.1 in
-    mark_refused g.M.MetaDisk.seen g.M.MetaDisk.may_leave g.M.MetaDisk.moment g.M.MetaDisk.left_since g.met.M.MetaDisk.only_now c.args.self.now c.args.way c.remember.new.marks c.from_residual.result p.0 WantsMemory p.1 p.2 (λ e. absurd cc) (λ e. absurd cc) history
+    mark_refused g.M.MetaDisk.seen g.M.MetaDisk.may_leave g.M.MetaDisk.moment g.M.MetaDisk.left_since g.M.MetaDisk.calls g.met.M.MetaDisk.only_now c.args.self.now c.args.way c.remember.new.marks c.from_residual.result p.0 WantsMemory p.1 p.2 (λ e. absurd cc) (λ e. absurd cc) history
 
 pub returns-in_err-put-clause-made : goal.returns-in_err-put-clause-made
 returns-in_err-put-clause-made g c history =
@@ -25,8 +25,8 @@ returns-in_err-put-clause-made g c history =
     let wants = wants_is c.rows-rows.result.now _ c.as_slice.result.now c.args.self.now.marks.items c.args.part.volume c.args.way.doing.steps.grain c.args.way.doing.steps.place c.wants_mark.result
     (c.rows-rows.ensures ∙ (ap (λ (z : ChangesState). z.rows) c.changes.ensures ∙ ap (λ (v : LaneView). v.changes.rows) seen)) c.as_slice.ensures.value c.wants_mark.ensures c.if-not-wants_mark.false in
     let p = err_from_is_err_and c.from_residual-in_err-put.result c.from_residual-in_err-put.ensures.1 in
-    subst (λ n. WayMade g.M.MetaDisk.seen g.M.MetaDisk.may_leave g.M.MetaDisk.moment g.M.MetaDisk.left_since c.from_residual-in_err-put.result c.args.self.now c.args.way n history history) (sym c.in_err-put.ensures.others)
-    (mark_failed g.M.MetaDisk.seen g.M.MetaDisk.may_leave g.M.MetaDisk.moment g.M.MetaDisk.left_since g.met.M.MetaDisk.counts_now c.args.self.now c.args.way c.args.part c.requires.due c.requires.live c.requires.next wants
+    subst (λ n. WayMade g.M.MetaDisk.seen g.M.MetaDisk.may_leave g.M.MetaDisk.moment g.M.MetaDisk.left_since g.M.MetaDisk.calls c.from_residual-in_err-put.result c.args.self.now c.args.way n history history) (sym c.in_err-put.ensures.others)
+    (mark_failed g.M.MetaDisk.seen g.M.MetaDisk.may_leave g.M.MetaDisk.moment g.M.MetaDisk.left_since g.M.MetaDisk.calls g.met.M.MetaDisk.counts_now c.args.self.now c.args.way c.args.part c.requires.due c.requires.live c.requires.next wants
     c.put.new.self.meta c.put.new.self.calls c.in_err-put.ensures.calls c.remember.new.marks c.in_ok-remember.ensures.ok c.in_err-put.ensures.any_moment
     c.from_residual-in_err-put.result p.0 c.in_err-put.field-0.0 p.1 p.2 (λ e. c.in_err-put.ensures.not_log (ap (λ (z : NotedStop). Err z) e)) history)
 
@@ -36,8 +36,8 @@ returns-clause-made g c history =
     let seen = seen_lane g.M.MetaDisk.seen g.M.MetaDisk.may_leave c.args.self.now c.args.way a.2 a.0 a.1 a.3 c.requires.due c.all_lanes.result.now c.index-all_lanes-way.result c.all_lanes.ensures c.index-all_lanes-way.is in
     let wants = wants_is c.rows-rows.result.now _ c.as_slice.result.now c.args.self.now.marks.items c.args.part.volume c.args.way.doing.steps.grain c.args.way.doing.steps.place c.wants_mark.result
     (c.rows-rows.ensures ∙ (ap (λ (z : ChangesState). z.rows) c.changes.ensures ∙ ap (λ (v : LaneView). v.changes.rows) seen)) c.as_slice.ensures.value c.wants_mark.ensures c.if-not-wants_mark.false in
-    subst (λ n. WayMade g.M.MetaDisk.seen g.M.MetaDisk.may_leave g.M.MetaDisk.moment g.M.MetaDisk.left_since done c.args.self.now c.args.way (record n { under_way = Some c.args.way }) history history) (sym c.in_ok-put.ensures.others)
-    (mark_made_by g.M.MetaDisk.seen g.M.MetaDisk.may_leave g.M.MetaDisk.moment g.M.MetaDisk.left_since g.met.M.MetaDisk.counts_now c.args.self.now c.args.way c.args.part c.requires.due c.requires.live c.requires.next wants
+    subst (λ n. WayMade g.M.MetaDisk.seen g.M.MetaDisk.may_leave g.M.MetaDisk.moment g.M.MetaDisk.left_since g.M.MetaDisk.calls done c.args.self.now c.args.way (record n { under_way = Some c.args.way }) history history) (sym c.in_ok-put.ensures.others)
+    (mark_made_by g.M.MetaDisk.seen g.M.MetaDisk.may_leave g.M.MetaDisk.moment g.M.MetaDisk.left_since g.M.MetaDisk.calls g.met.M.MetaDisk.counts_now c.args.self.now c.args.way c.args.part c.requires.due c.requires.live c.requires.next wants
     c.put.new.self.meta c.put.new.self.calls c.in_ok-put.ensures.calls c.remember.new.marks c.in_ok-remember.ensures.ok c.in_ok-put.ensures.any_moment c.in_ok-put.ensures.rests c.in_ok-put.ensures.found
     c.in_ok-put.ensures.counted.size c.in_ok-put.ensures.metered history)
 

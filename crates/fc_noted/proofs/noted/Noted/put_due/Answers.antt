@@ -13,15 +13,15 @@ use Rattle.fc_noted.proofs.noted.Noted.put_due.Goals as goal
 pub returns-in_err-put-clause-made : goal.returns-in_err-put-clause-made
 returns-in_err-put-clause-made g c history =
     let p = err_from_is_err_and c.from_residual.result c.from_residual.ensures.1 in
-    subst (λ n. WayMade g.M.MetaDisk.seen g.M.MetaDisk.may_leave g.M.MetaDisk.moment g.M.MetaDisk.left_since c.from_residual.result c.args.self.now c.args.way n history history) (sym c.in_err-put.ensures.others)
-    (due_failed g.M.MetaDisk.seen g.M.MetaDisk.may_leave g.M.MetaDisk.moment g.M.MetaDisk.left_since g.met.M.MetaDisk.counts_now c.args.self.now c.args.way c.args.note c.requires.due c.requires.live
+    subst (λ n. WayMade g.M.MetaDisk.seen g.M.MetaDisk.may_leave g.M.MetaDisk.moment g.M.MetaDisk.left_since g.M.MetaDisk.calls c.from_residual.result c.args.self.now c.args.way n history history) (sym c.in_err-put.ensures.others)
+    (due_failed g.M.MetaDisk.seen g.M.MetaDisk.may_leave g.M.MetaDisk.moment g.M.MetaDisk.left_since g.M.MetaDisk.calls g.met.M.MetaDisk.counts_now c.args.self.now c.args.way c.args.note c.requires.due c.requires.live
     c.put.new.self.meta c.put.new.self.calls c.in_err-put.ensures.calls c.in_err-put.ensures.any_moment c.from_residual.result p.0 c.in_err-put.field-0.0 p.1 p.2 (λ e. c.in_err-put.ensures.not_log (ap (λ (z : NotedStop). Err z) e)) history)
 
 pub returns-clause-made : goal.returns-clause-made
 returns-clause-made g c history =
     let way : UnderWay = record { place = c.args.way.place; doing = c.args.way.doing; due = None } in
-    subst (λ n. WayMade g.M.MetaDisk.seen g.M.MetaDisk.may_leave g.M.MetaDisk.moment g.M.MetaDisk.left_since done c.args.self.now c.args.way (record n { under_way = Some way }) history history) (sym c.in_ok-put.ensures.others)
-    (due_made g.M.MetaDisk.seen g.M.MetaDisk.may_leave g.M.MetaDisk.moment g.M.MetaDisk.left_since g.met.M.MetaDisk.counts_now c.args.self.now c.args.way c.args.note c.requires.due c.requires.live
+    subst (λ n. WayMade g.M.MetaDisk.seen g.M.MetaDisk.may_leave g.M.MetaDisk.moment g.M.MetaDisk.left_since g.M.MetaDisk.calls done c.args.self.now c.args.way (record n { under_way = Some way }) history history) (sym c.in_ok-put.ensures.others)
+    (due_made g.M.MetaDisk.seen g.M.MetaDisk.may_leave g.M.MetaDisk.moment g.M.MetaDisk.left_since g.M.MetaDisk.calls g.met.M.MetaDisk.counts_now c.args.self.now c.args.way c.args.note c.requires.due c.requires.live
     c.put.new.self.meta c.put.new.self.calls c.in_ok-put.ensures.calls c.in_ok-put.ensures.any_moment c.in_ok-put.ensures.rests c.in_ok-put.ensures.found c.in_ok-put.ensures.counted.size c.in_ok-put.ensures.metered history)
 
 pub returns-in_err-put-clause-lanes : goal.returns-in_err-put-clause-lanes

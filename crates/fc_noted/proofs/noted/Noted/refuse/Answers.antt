@@ -13,7 +13,7 @@ use Rattle.fc_noted.proofs.noted.Noted.refuse.Goals as goal
 
 pub returns-then-is_full-clause-made : goal.returns-then-is_full-clause-made
 returns-then-is_full-clause-made g c =
-    stopped_made g.M.MetaDisk.seen g.M.MetaDisk.may_leave g.M.MetaDisk.moment g.M.MetaDisk.left_since g.met.M.MetaDisk.only_now c.args.self.now c.args.history.now c.requires.begins c.args.self.now.store
+    stopped_made g.M.MetaDisk.seen g.M.MetaDisk.may_leave g.M.MetaDisk.moment g.M.MetaDisk.left_since g.M.MetaDisk.calls g.met.M.MetaDisk.only_now c.args.self.now c.args.history.now c.requires.begins c.args.self.now.store
     (as_roomy c.args.self.now.store) LogFull (λ e. c.if-is_full.ensures.full) (λ e. let q : LogFull ≡ MetaFailed = e in cc)
 
 pub log_entry-requires-clause-stands : goal.log_entry-requires-clause-stands
@@ -24,8 +24,8 @@ returns-clause-made g c =
     let old = c.args.self.now in
     let history = c.args.history.now in
     let begins = c.requires.begins in
-    subst (λ n. StepMade g.M.MetaDisk.seen g.M.MetaDisk.may_leave g.M.MetaDisk.moment g.M.MetaDisk.left_since (always c.log_entry.result) old n history c.log_entry.new.history) (sym c.log_entry.ensures.others)
-    (refused_made g.M.MetaDisk.seen g.M.MetaDisk.may_leave g.M.MetaDisk.moment g.M.MetaDisk.left_since g.met.M.MetaDisk.only_now old history begins.at.idle c.requires.begins.live c.if-is_full.ensures.room
+    subst (λ n. StepMade g.M.MetaDisk.seen g.M.MetaDisk.may_leave g.M.MetaDisk.moment g.M.MetaDisk.left_since g.M.MetaDisk.calls (always c.log_entry.result) old n history c.log_entry.new.history) (sym c.log_entry.ensures.others)
+    (refused_made g.M.MetaDisk.seen g.M.MetaDisk.may_leave g.M.MetaDisk.moment g.M.MetaDisk.left_since g.M.MetaDisk.calls g.met.M.MetaDisk.only_now old history begins.at.idle c.requires.begins.live c.if-is_full.ensures.room
     c.len.result c.args.request c.args.refusal (record c.refused_entry-entry.result { number = c.len.result }) c.log_entry.new.self.script c.log_entry.result c.log_entry.new.history c.len.ensures
     (ap (λ (e : Entry). record e { number = c.len.result }) c.refused_entry-entry.ensures) c.requires.can c.requires.next
     c.log_entry.ensures.logged c.log_entry.ensures.goes c.log_entry.ensures.unlogged c.log_entry.ensures.stop)

@@ -13,17 +13,17 @@ use Rattle.fc_noted.proofs.noted.Noted.step.Goals as goal
 pub returns-in_err-go_on-in-Some-clause-made : goal.returns-in_err-go_on-in-Some-clause-made
 returns-in_err-go_on-in-Some-clause-made g c =
     let p = err_from_is_err_and c.from_residual.result c.from_residual.ensures.1 in
-    step_failed g.M.MetaDisk.seen g.M.MetaDisk.may_leave g.M.MetaDisk.moment g.M.MetaDisk.left_since c.args.self.now c.go_on.new.self c.args.history.now c.go_on.new.history
+    step_failed g.M.MetaDisk.seen g.M.MetaDisk.may_leave g.M.MetaDisk.moment g.M.MetaDisk.left_since g.M.MetaDisk.calls c.args.self.now c.go_on.new.self c.args.history.now c.go_on.new.history
     c.from_residual.result p.0 c.in_err-go_on-in-Some.field-0.0 (Some c.in-Some.way) p.1 p.2 (sym c.take.ensures.value ∙ c.in-Some.is) c.in_err-go_on-in-Some.ensures.made
 
 pub returns-in-None-clause-made : goal.returns-in-None-clause-made
 returns-in-None-clause-made g c =
-    step_same g.M.MetaDisk.seen g.M.MetaDisk.may_leave g.M.MetaDisk.moment g.M.MetaDisk.left_since c.args.self.now c.begin_next.new.self c.args.history.now c.begin_next.new.history
+    step_same g.M.MetaDisk.seen g.M.MetaDisk.may_leave g.M.MetaDisk.moment g.M.MetaDisk.left_since g.M.MetaDisk.calls c.args.self.now c.begin_next.new.self c.args.history.now c.begin_next.new.history
     c.begin_next.result c.take.new.self (sym c.take.ensures.value ∙ (c.in-None.is ∙ sym c.take.ensures.after)) c.begin_next.ensures.made
 
 pub returns-in_ok-go_on-in-Some-clause-made : goal.returns-in_ok-go_on-in-Some-clause-made
 returns-in_ok-go_on-in-Some-clause-made g c =
-    step_same g.M.MetaDisk.seen g.M.MetaDisk.may_leave g.M.MetaDisk.moment g.M.MetaDisk.left_since c.args.self.now c.go_on.new.self c.args.history.now c.go_on.new.history
+    step_same g.M.MetaDisk.seen g.M.MetaDisk.may_leave g.M.MetaDisk.moment g.M.MetaDisk.left_since g.M.MetaDisk.calls c.args.self.now c.go_on.new.self c.args.history.now c.go_on.new.history
     (Ok true) (Some c.in-Some.way) (sym c.take.ensures.value ∙ c.in-Some.is) c.in_ok-go_on-in-Some.ensures.made
 
 pub returns-in_err-go_on-in-Some-clause-counted : goal.returns-in_err-go_on-in-Some-clause-counted
