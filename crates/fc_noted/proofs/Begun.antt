@@ -262,5 +262,5 @@ module _ {C D : Type 0} (seen : D → List ℕ) (may_leave : D → List ℕ → 
               (doing_found seen may_leave behind (record { place = place; doing = doing; due = None }) history w least (doing_at w least at)));
           stopped = tt;
           full = λ f. absurd cc;
-          into = λ f. absurd cc;
+          into = tt;
         }

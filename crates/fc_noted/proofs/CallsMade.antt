@@ -1,5 +1,5 @@
 -- What the count of calls says of a noted store whose metadata stays, or is made anew.
-use Rattle.std.proofs.Common.{◌≡◌, ℕ, ◌/◌, List, length, Result, Ok, Err, OnOk, refl, sym, ap, subst, ◌∙◌, arith}
+use Rattle.std.proofs.Common.{◌≡◌, ℕ, ◌+◌, ◌/◌, ◌≤◌, List, length, Result, Ok, Err, OnOk, refl, sym, ap, subst, ◌∙◌, arith}
 use Rattle.std.specs.Prelude.{IsErrOf}
 use Rattle.fc_base.specs.Count.{HasRisen}
 use Rattle.fc_desk.specs.Control.{ControlState}
@@ -7,14 +7,16 @@ use Rattle.fc_entry.specs.declared.entry.Entry.{Entry}
 use Rattle.fc_format.specs.Halves.{Found, Image}
 use Rattle.fc_image.specs.declared.image.MetaImage.{MetaImage}
 use Rattle.fc_legal.specs.Whole.{Whole}
-use Rattle.fc_marks.specs.Meter.{IsCalledUpTo, IsMetered}
-use Rattle.fc_marks.specs.declared.error.NotedStop.TheVariants.{LogFull, MetaFailed, NoMemory as WantsMemory}
+use Rattle.fc_marks.specs.Meter.{HasCause, IsMetered, Meter}
+use Rattle.fc_marks.specs.declared.error.NotedStop.TheVariants.{LogFull, MetaFailed, MetaFull, NoMemory as WantsMemory}
 use Rattle.fc_marks.specs.declared.error.NotedStop.{NotedStop}
+use Rattle.fc_meta.proofs.Asked.{calls_added}
 use Rattle.fc_meta.specs.Answers.{more_calls}
 use Rattle.fc_meta.specs.States.{disk_of, room_of}
 use Rattle.fc_noted.specs.Making.{KeepsCount}
 use Rattle.fc_noted.specs.Metered.{Metered}
 use Rattle.fc_noted.specs.Noted.{Counts}
+use Rattle.fc_noted.specs.Stopping.{OfMetadata, StopsInto}
 use Rattle.fc_noted.specs.declared.noted.Noted.{Noted}
 
 pub on_ok : {T E : Type 0} (result : Result T E) (P : Type 0) → P → OnOk result P
@@ -38,6 +40,30 @@ log_full e = cc
 -- what is found is one image
 pub one_image : (f : Found) (a b : MetaImage) → f ≡ Image a → f ≡ Image b → a ≡ b
 one_image f a b e h = let q : Image a ≡ Image b = sym e ∙ h in cc
+
+-- calls behind others
+pub calls_more : (n calls old new : ℕ) → old ≡ more_calls calls 0 → new ≡ more_calls n old → new ≡ more_calls (calls + n) 0
+calls_more n calls old new is added = added ∙ (ap (more_calls n) is ∙ (calls_added n calls 0 ∙ ap (λ (k : ℕ). more_calls k 0) (let e : n + calls ≡ calls + n = omega arith in e)))
+
+-- ---- errors of metadata
+
+pub of_metadata : (stop : NotedStop) {P Q : Type 0} → (P → Q) → OfMetadata stop P → OfMetadata stop Q
+of_metadata MetaFailed f p = f p
+of_metadata MetaFull f p = f p
+of_metadata LogFull f p = tt
+of_metadata WantsMemory f p = tt
+
+pub any_metadata : (stop : NotedStop) {P : Type 0} → P → OfMetadata stop P
+any_metadata MetaFailed p = p
+any_metadata MetaFull p = p
+any_metadata LogFull p = tt
+any_metadata WantsMemory p = tt
+
+-- the disk stopped behind so many calls, for a cause that the meter has
+pub stops_into : {C D : Type 0} (calls : D → ℕ) (stop : NotedStop) (old new : Noted C D) (m into : Meter) → old.calls ≡ more_calls m.calls 0 → new.calls ≡ more_calls into.calls 0 →
+    (made : ℕ) × (calls (disk_of new.meta) ≡ more_calls made (calls (disk_of old.meta))) × (m.calls + made ≤ into.calls) × HasCause stop (m.calls + made) into → StopsInto calls stop old new into
+stops_into calls stop old new m into was counted p =
+    record { counted = counted; made = p.0; called = p.1; all = m.calls + p.0; in_all = calls_more p.0 m.calls old.calls (more_calls p.0 old.calls) was refl; cause = p.3 }
 
 -- ---- metadata stays
 

@@ -18,7 +18,6 @@ use Rattle.fc_legal.specs.Agenda.{Asks}
 use Rattle.fc_legal.specs.Steps.{after_settling, decided_on}
 use Rattle.fc_legal.specs.Whole.{Whole}
 use Rattle.fc_marks.specs.Meter.{Meter, with_fold}
-use Rattle.fc_meta.proofs.Asked.{calls_added}
 use Rattle.fc_meta.specs.Answers.{more_calls}
 use Rattle.fc_noted.proofs.Planned.{IsPlanned}
 use Rattle.fc_noted.specs.Making.{CountsInto}
@@ -68,10 +67,6 @@ module _ (grain : GrainSize) (w : Whole) (command : Command) (decisions : ℕ) (
   acts_not e = by_effect false e
 
 -- ---- by the count
-
--- calls behind others
-pub calls_more : (n calls old new : ℕ) → old ≡ more_calls calls 0 → new ≡ more_calls n old → new ≡ more_calls (calls + n) 0
-calls_more n calls old new is added = added ∙ (ap (more_calls n) is ∙ (calls_added n calls 0 ∙ ap (λ (k : ℕ). more_calls k 0) (let e : n + calls ≡ calls + n = omega arith in e)))
 
 -- the disk failed on the way
 pub counts_into : {C D : Type 0} (seen : D → List ℕ) (may_leave : D → List ℕ → Type 0) (old new : Noted C D) (history : HistoryState) (w : Whole) (least : List Row) (at : IsNotedAt seen may_leave old history w least) (command : Command) →

@@ -44,7 +44,8 @@ use Rattle.law_commanded.proofs.Anew.{anew_is}
 use Rattle.law_commanded.proofs.Leaving.{from_run}
 use Rattle.law_commanded.specs.Law.{CommandedLaw, HasCome, decision_on, least_behind, left_behind}
 use Rattle.fc_noted.proofs.Commanding.{BecomesAnew, same_disks, stands_for}
-use Rattle.fc_noted.proofs.CommandCosts.{acts, acts_not, calls_more}
+use Rattle.fc_noted.proofs.CallsMade.{calls_more}
+use Rattle.fc_noted.proofs.CommandCosts.{acts, acts_not}
 use Rattle.fc_noted.proofs.Counting.{counted_as}
 use Rattle.fc_noted.proofs.Planned.{IsPlanned, becoming, entry_of, have_left, same_lanes, stands_left}
 use Rattle.fc_noted.proofs.Safe.{as_it_was}

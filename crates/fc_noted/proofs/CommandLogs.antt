@@ -55,7 +55,7 @@ module _ {C D : Type 0} (seen : D → List ℕ) (may_leave : D → List ℕ → 
             let m = resting_found seen may_leave old before w least h few in
             (refl, record { volumes = h.keeps.volumes; counted = has_counted old.store w h.told.0 few; leaves = λ c may. (h.keeps.image, ap recovered (h.keeps.rests.durable c may) ∙ h.keeps.says, m) });
         full = λ e. full;
-        into = λ e. absurd cc;
+        into = tt;
       }
 
 -- the command isn't done, or it is and its entry is there
@@ -95,7 +95,7 @@ module _ {C D : Type 0} (seen : D → List ℕ) (may_leave : D → List ℕ → 
           any_moment = λ w least at. any_moment before w least room (rest w least at);
           stopped = λ w least at. (refl, stops w least at);
           full = λ e. absurd (let f : WantsMemory ≡ LogFull = same_stop WantsMemory e in cc);
-          into = λ e. absurd cc;
+          into = tt;
         }
 
     module _ (entry : Entry) (command : Command) (leads : LeadsOn seen may_leave old before entry mid) (is_asked : IsAsked 0 0 (Asked command) entry)
@@ -185,7 +185,7 @@ module _ {C D : Type 0} (seen : D → List ℕ) (may_leave : D → List ℕ → 
             any_moment = λ w least at. any_moment before w least room (rest w least at);
             stopped = tt;
             full = λ e. absurd cc;
-            into = λ e. absurd cc;
+            into = tt;
           }
 
       by_result : (result : Result (Unit {0}) NotedStop) (later : HistoryState) → OnOk result (later ≡ record before { entries = before.entries ++ (record entry { number = length before.entries }) ∷ [] }) →

@@ -290,7 +290,7 @@ module _ {C D : Type 0} (seen : D → List ℕ) (may_leave : D → List ℕ → 
           any_moment = λ w least d. leaves history w least d marks script moment left_since only_now;
           stopped = tt;
           full = λ f. absurd cc;
-          into = λ f. absurd cc;
+          into = tt;
         }
 
     unlogged : (history : HistoryState) → WayMade seen may_leave moment left_since disk_calls (Err WantsMemory) n way behind history history
@@ -300,7 +300,7 @@ module _ {C D : Type 0} (seen : D → List ℕ) (may_leave : D → List ℕ → 
           any_moment = λ w least d. leaves history w least d marks script moment left_since only_now;
           stopped = λ w least d. (refl, stops history w least d marks script);
           full = λ f. absurd (let e : WantsMemory ≡ LogFull = same_stop WantsMemory f in cc);
-          into = λ f. absurd (let e : WantsMemory ≡ MetaFailed = same_stop WantsMemory f in cc);
+          into = tt;
         }
 
     by_result : (result : Result (Unit {0}) NotedStop) (history later : HistoryState) → OnOk result (later ≡ record history { entries = history.entries ++ entry ∷ [] }) →

@@ -196,7 +196,7 @@ module _ {C D : Type 0} (seen : D → List ℕ) (may_leave : D → List ℕ → 
           any_moment = still_on room;
           stopped = tt;
           full = λ f. absurd cc;
-          into = λ f. absurd cc;
+          into = tt;
         }
 
   -- memory was wanted, and nothing is said of the script
@@ -216,5 +216,5 @@ module _ {C D : Type 0} (seen : D → List ℕ) (may_leave : D → List ℕ → 
               },
             );
         full = λ f. absurd cc;
-        into = λ f. absurd cc;
+        into = tt;
       }

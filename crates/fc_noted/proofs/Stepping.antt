@@ -93,7 +93,7 @@ module _ {C D : Type 0} (seen : D → List ℕ) (may_leave : D → List ℕ → 
         any_moment = leaves history;
         stopped = tt;
         full = λ f. absurd cc;
-        into = λ f. absurd cc;
+        into = tt;
       }
 
   -- or it stopped

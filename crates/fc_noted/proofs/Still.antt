@@ -253,7 +253,7 @@ module _ {C D : Type 0} (seen : D → List ℕ) (may_leave : D → List ℕ → 
           any_moment = moments script;
           stopped = tt;
           full = λ f. absurd cc;
-          into = λ f. absurd cc;
+          into = tt;
         }
 
     -- or memory was wanted, and it isn't
@@ -269,7 +269,7 @@ module _ {C D : Type 0} (seen : D → List ℕ) (may_leave : D → List ℕ → 
                 record { volumes = still.volumes; counted = still.counted; leaves = λ c may. (x.keeps.image, ap recovered (x.keeps.rests.durable c may) ∙ x.keeps.says, found_held script w least at) },
               );
           full = λ f. absurd cc;
-          into = λ f. absurd cc;
+          into = tt;
         }
 
     -- whichever it was
