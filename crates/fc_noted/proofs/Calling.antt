@@ -1,13 +1,15 @@
 -- Calls of the disk of metadata by one part of a line, and by another behind it.
-use Rattle.std.proofs.Common.{◌≡◌, ℕ, ◌+◌, List, ap, subst, ◌∙◌, arith}
+use Rattle.std.proofs.Common.{◌≡◌, ℕ, ◌+◌, List, sym, ap, subst, ◌∙◌, arith}
 use Rattle.std.specs.Prelude.{Err, IsErrOf, Ok, OnOk, Result}
 use Rattle.fc_base.specs.Count.{HasRisen}
-use Rattle.fc_marks.specs.declared.error.NotedStop.TheVariants.{MetaFailed}
+use Rattle.fc_marks.specs.Meter.{Meter}
+use Rattle.fc_marks.specs.declared.error.NotedStop.TheVariants.{MetaFailed, MetaFull}
 use Rattle.fc_marks.specs.declared.error.NotedStop.{NotedStop}
 use Rattle.fc_meta.proofs.Asked.{calls_added}
 use Rattle.fc_meta.specs.Answers.{more_calls}
 use Rattle.fc_meta.specs.States.{disk_of}
 use Rattle.fc_noted.specs.Making.{KeepsCount}
+use Rattle.fc_noted.specs.Stopping.{StopsInto}
 use Rattle.fc_noted.specs.declared.noted.Noted.{Noted}
 
 same_stop : {T U : Type 0} (stop told : NotedStop) → IsErrOf {T = U} (Err stop) told → IsErrOf {T = T} (Err stop) told
@@ -17,7 +19,11 @@ module _ {C D : Type 0} (seen : D → List ℕ) (fault_count calls : D → ℕ) 
   abbrev Whole : ℕ → ℕ → Noted C D → Noted C D → Type 0
   Whole made counted old new = (made ≡ counted) × (fault_count (disk_of new.meta) ≡ fault_count (disk_of old.meta))
 
-  -- of a part that was made whole, and of another
+  -- of a part that was made whole: as many as were counted
+  pub calls_whole : {T : Type 0} {first : T} (old new : Noted C D) (a : KeepsCount seen fault_count calls (Ok first) old new) → calls (disk_of new.meta) ≡ more_calls a.counted (calls (disk_of old.meta))
+  calls_whole old new a = a.called ∙ ap (λ (n : ℕ). more_calls n (calls (disk_of old.meta))) a.whole.0
+
+  -- and of another
   pub calls_behind : {T U : Type 0} {first : T} (last : Result U NotedStop) (old mid new : Noted C D) → KeepsCount seen fault_count calls (Ok first) old mid → KeepsCount seen fault_count calls last mid new →
       KeepsCount seen fault_count calls last old new
   calls_behind last old mid new a b =
@@ -29,6 +35,7 @@ module _ {C D : Type 0} (seen : D → List ℕ) (fault_count calls : D → ℕ) 
         within = let x = a.within in let y = b.within in omega (arith, x, y);
         whole = by last b.whole;
         failed = λ told. subst (λ (n : ℕ). HasRisen n (fault_count (disk_of new.meta))) a.whole.1 (b.failed told);
+        unfailed = λ told. b.unfailed told ∙ a.whole.1;
         size = b.size ∙ a.size;
       }
     where
@@ -47,6 +54,7 @@ module _ {C D : Type 0} (seen : D → List ℕ) (fault_count calls : D → ℕ) 
         within = a.within;
         whole = a.whole;
         failed = λ told. absurd cc;
+        unfailed = λ told. absurd cc;
         size = a.size;
       }
 
@@ -61,5 +69,18 @@ module _ {C D : Type 0} (seen : D → List ℕ) (fault_count calls : D → ℕ) 
         within = a.within;
         whole = tt;
         failed = λ told. a.failed (same_stop {T = T} {U = U} stop MetaFailed told);
+        unfailed = λ told. a.unfailed (same_stop {T = T} {U = U} stop MetaFull told);
         size = a.size;
+      }
+
+  -- where it stopped behind a part that was made whole
+  pub stops_behind : {T : Type 0} {first : T} (stop : NotedStop) (old mid new : Noted C D) (into : Meter) → KeepsCount seen fault_count calls (Ok first) old mid → StopsInto calls stop mid new into → StopsInto calls stop old new into
+  stops_behind stop old mid new into a s =
+      record {
+        counted = s.counted;
+        made = s.made + a.counted;
+        called = s.called ∙ (ap (more_calls s.made) (calls_whole old mid a) ∙ calls_added s.made a.counted (calls (disk_of old.meta)));
+        all = s.all;
+        in_all = sym (calls_added s.made a.counted old.calls) ∙ (ap (more_calls s.made) (sym a.count) ∙ s.in_all);
+        cause = s.cause;
       }

@@ -20,18 +20,19 @@ use Rattle.fc_marks.specs.declared.error.NotedStop.TheVariants.{LogFull, NoMemor
 use Rattle.fc_marks.specs.declared.error.NotedStop.{NotedStop}
 use Rattle.fc_meta.specs.Answers.{more_calls}
 use Rattle.fc_meta.specs.States.{disk_of, room_of}
+use Rattle.fc_noted.proofs.Calling.{calls_whole, stops_behind}
 use Rattle.fc_noted.proofs.Calls.{more_grow}
 use Rattle.fc_noted.proofs.Counting.{has_counted}
 use Rattle.fc_noted.proofs.InHand.{doing_counted}
 use Rattle.fc_noted.proofs.Lines.{Brings, Comes, brings_still}
-use Rattle.fc_noted.proofs.Metering.{calls_grow}
+use Rattle.fc_noted.proofs.Metering.{calls_grow, full_before}
 use Rattle.fc_noted.proofs.Moments.{doing_found, resting_found}
 use Rattle.fc_noted.proofs.Resting.{rests_safe}
 use Rattle.fc_noted.specs.Lines.{LineStops, ScriptStops}
 use Rattle.fc_noted.specs.Making.{CountsInto, KeepsCount, StepMade, done}
 use Rattle.fc_noted.specs.Metered.{GoesInto, Metered, after_actions}
 use Rattle.fc_noted.specs.Noted.{IsAt, IsAtBy, IsNotedAt}
-use Rattle.fc_noted.specs.Stopping.{AsksSome, Halts, HasStopped, IsAskedOf, IsAskedSoon, Leaves, LeftAt, LineHalts, MayBeRecovered, MoreFailed, Paid}
+use Rattle.fc_noted.specs.Stopping.{AsksSome, Halts, HasStopped, IsAskedOf, IsAskedSoon, Leaves, LeftAt, LineHalts, MayBeRecovered, MoreFailed, OfMetadata, Paid}
 use Rattle.fc_noted.specs.declared.noted.Noted.{Noted}
 use Rattle.fc_noted.specs.declared.noted.UnderWay.{UnderWay}
 use Rattle.fc_script.specs.Passage.{GoesOn}
@@ -49,18 +50,21 @@ module _ {C D : Type 0} (seen : D → List ℕ) (may_leave : D → List ℕ → 
   of_by None n history w least at = at.told.1
   of_by (Some way) n history w least d = d.told.1
 
-  -- The entries of a history cost so much, which was counted.
+  -- The entries of a history cost so much, which was counted, and nothing passed the half.
   abbrev Costs : Noted C D → List Entry → Whole → Meter → Type 0
-  Costs n entries w meter = Metered n.store.control.grain (room_of seen n.meta) entries w meter × (more_calls meter.calls 0 ≤ n.calls)
+  Costs n entries w meter = Metered n.store.control.grain (room_of seen n.meta) entries w meter × (meter.full ≡ None) × (more_calls meter.calls 0 ≤ n.calls)
 
   costs_by : (o : Option UnderWay) (n : Noted C D) (history : HistoryState) (w : Whole) (least : List Row) → IsAtBy seen may_leave o n history w least → (meter : Meter) × Costs n history.entries w meter
-  costs_by None n history w least at = let c = at.counts in (c.meter, (c.metered, let e = c.calls in omega (arith, e)))
+  costs_by None n history w least at = let c = at.counts in (c.meter, (c.metered, c.is.fits, let e = c.calls in omega (arith, e)))
   costs_by (Some way) n history w least d =
       let c = d.counts in
       let half : ℕ = room_of seen n.meta in
       let here : n.store.control.grain ≡ d.begun.control.grain = ap (λ (s : StoreView). s.control.grain) d.since in
       let l = more_grow c.before.calls (after_actions half c.before c.actions).calls (calls_grow half c.before c.actions) in
-      let e = c.calls in (c.before, (subst (λ (g : GrainSize). Metered g half history.entries w c.before) (sym here) c.metered, omega (arith, l, e)))
+      let e = c.calls in (
+        c.before,
+        (subst (λ (g : GrainSize). Metered g half history.entries w c.before) (sym here) c.metered, full_before half c.before c.actions c.is.fits, omega (arith, l, e)),
+      )
 
   module _ (old mid : Noted C D) (before between : HistoryState) (comes : Comes seen may_leave old before mid between) (so_far : KeepsCount seen fault_count calls done old mid) (new : Noted C D) (after : HistoryState) where
     abbrev grain : GrainSize
@@ -110,11 +114,11 @@ module _ {C D : Type 0} (seen : D → List ℕ) (may_leave : D → List ℕ → 
 
     -- ---- by why it stopped
 
-    -- what the entries cost, and how far it went into what is asked next, where metadata failed
+    -- what the entries cost, and how far it went into what is asked next, where metadata failed or is full
     abbrev Left : NotedStop → Whole → Type 0
     Left stop m =
         (meter : Meter) × Paid seen fault_count calls old.store.control.grain old new m after.entries meter
-        × ((stop ≡ MetaFailed) → LeftAt seen old.store.control.grain new m (agenda_of old.store.control.grain mid.script) meter)
+        × OfMetadata stop (LeftAt seen calls old.store.control.grain stop old new m (agenda_of old.store.control.grain mid.script) meter)
 
     halted_by : (stop : NotedStop) (read : Reading) (w m : Whole) (least : List Row) → To w m → IsOf m between → (IsErrOf {T = Bool} (Err stop) LogFull → 262144 ≤ length between.entries) →
         (IsErrOf {T = Bool} (Err stop) LogFull → AsksSome mid.store.control.grain mid.script m) → Left stop m → after ≡ between → HasStopped may_leave mid new m least →
@@ -134,15 +138,17 @@ module _ {C D : Type 0} (seen : D → List ℕ) (may_leave : D → List ℕ → 
         let here : Metered grain (room_of seen new.meta) between.entries m meter = subst (λ (half : ℕ). Metered grain half between.entries m meter) (sym size) there in
         record {
           metered = subst (λ (h : HistoryState). Metered grain (room_of seen new.meta) h.entries m meter) (sym same) here;
+          fits = costs.1;
           unfailed = so_far.counted;
           disk = disk_of mid.meta;
-          called = so_far.called ∙ ap (λ (n : ℕ). more_calls n (calls (disk_of old.meta))) so_far.whole.0;
+          called = calls_whole seen fault_count calls old mid so_far;
           quiet = so_far.whole.1;
-          before = subst (λ (n : ℕ). more_calls meter.calls 0 ≤ n) so_far.count costs.1;
+          before = subst (λ (n : ℕ). more_calls meter.calls 0 ≤ n) so_far.count costs.2;
         }
 
-    left_there : (m : Whole) → room_of seen new.meta ≡ room_of seen mid.meta → (c : CountsInto seen mid new between m) → LeftAt seen old.store.control.grain new m (agenda_of old.store.control.grain mid.script) c.meter
-    left_there m size c =
+    left_there : (stop : NotedStop) (m : Whole) → room_of seen new.meta ≡ room_of seen mid.meta → (c : CountsInto seen calls stop mid new between m) →
+        LeftAt seen calls old.store.control.grain stop old new m (agenda_of old.store.control.grain mid.script) c.meter
+    left_there stop m size c =
         let Go : GrainSize → Type 0 = λ g. GoesInto g (room_of seen mid.meta) m c.meter c.request c.into in
         record {
           request = c.request;
@@ -153,20 +159,24 @@ module _ {C D : Type 0} (seen : D → List ℕ) (may_leave : D → List ℕ → 
           );
           into = c.into;
           goes = subst (λ (half : ℕ). GoesInto grain half m c.meter c.request c.into) (sym size) (subst Go comes.grain c.goes);
-          calls = c.calls;
+          stops = stops_behind seen fault_count calls stop old mid new c.into so_far c.stops;
         }
 
-    left_else : (stop : NotedStop) → ((stop ≡ MetaFailed) → ⊥) → (m : Whole) (least : List Row) → IsAt seen may_leave mid between m least → room_of seen new.meta ≡ room_of seen mid.meta → after ≡ between → Left stop m
-    left_else stop other m least at size same =
-        let p = costs_by mid.under_way mid between m least at in (p.0, paid_there m p.0 p.1 size same, λ failed. absurd (other failed))
+    left_into : (stop : NotedStop) (m : Whole) → room_of seen new.meta ≡ room_of seen mid.meta → after ≡ between → CountsInto seen calls stop mid new between m →
+        (meter : Meter) × Paid seen fault_count calls old.store.control.grain old new m after.entries meter
+        × LeftAt seen calls old.store.control.grain stop old new m (agenda_of old.store.control.grain mid.script) meter
+    left_into stop m size same c = (c.meter, paid_there m c.meter (c.metered, c.fits, c.paid) size same, left_there stop m size c)
+
+    paid_by : (m : Whole) (least : List Row) → IsAt seen may_leave mid between m least → room_of seen new.meta ≡ room_of seen mid.meta → after ≡ between →
+        (meter : Meter) × Paid seen fault_count calls old.store.control.grain old new m after.entries meter
+    paid_by m least at size same = let p = costs_by mid.under_way mid between m least at in (p.0, paid_there m p.0 p.1 size same)
 
     left_by : (stop : NotedStop) → StepMade seen may_leave moment left_since calls (Err stop) mid new between after → (m : Whole) (least : List Row) → IsAt seen may_leave mid between m least → room_of seen new.meta ≡ room_of seen mid.meta →
         after ≡ between → Left stop m
-    left_by MetaFailed made m least at size same =
-        let c = made.into refl m least at in (c.meter, paid_there m c.meter (c.metered, c.paid) size same, λ failed. left_there m size c)
-    left_by LogFull made m least at size same = left_else LogFull (λ failed. cc) m least at size same
-    left_by NoMemory made m least at size same = left_else NoMemory (λ failed. cc) m least at size same
-    left_by MetaFull made m least at size same = left_else MetaFull (λ failed. cc) m least at size same
+    left_by MetaFailed made m least at size same = left_into MetaFailed m size same (made.into m least at)
+    left_by MetaFull made m least at size same = left_into MetaFull m size same (made.into m least at)
+    left_by LogFull made m least at size same = let p = paid_by m least at size same in (p.0, p.1, tt)
+    left_by NoMemory made m least at size same = let p = paid_by m least at size same in (p.0, p.1, tt)
 
     pub halted : (stop : NotedStop) → StepMade seen may_leave moment left_since calls (Err stop) mid new between after →
         (IsErrOf {T = Bool} (Err stop) LogFull → (m : Whole) (least : List Row) → IsAt seen may_leave mid between m least → AsksSome mid.store.control.grain mid.script m) →
@@ -205,8 +215,9 @@ module _ {C D : Type 0} (seen : D → List ℕ) (may_leave : D → List ℕ → 
   halted_on old mid before between comes so_far read w least there =
       let m = comes.came w least there in
       let now : Noted C D = record mid { live = false } in
+      let p = paid_by old mid before between comes so_far now between m.0 m.1 m.2 refl refl in
       halted_by old mid before between comes so_far now between NoMemory read w m.0 m.1 m.3 (of_by mid.under_way mid between m.0 m.1 m.2) (λ full. absurd cc) (λ full. absurd cc)
-      (left_else old mid before between comes so_far now between NoMemory (λ failed. cc) m.0 m.1 m.2 refl refl) refl (stops_by mid.under_way mid between m.0 m.1 m.2 comes.can.room)
+      (p.0, p.1, tt) refl (stops_by mid.under_way mid between m.0 m.1 m.2 comes.can.room)
 
 -- ---- between two entries, whatever is asked
 
@@ -235,7 +246,7 @@ not_taken_up {C} {D} seen may_leave fault_count calls n same history is room lin
       Session (single bytes ∷ []),
       at.told.1,
       record { volumes = leaves.volumes; counted = leaves.counted; found = leaves.found },
-      (at.counts.meter, paid, λ failed. absurd cc),
+      (at.counts.meter, paid, tt),
       record { more = []; entries = sym (append-nil history.entries); are = stays },
     )
   where
@@ -245,6 +256,7 @@ not_taken_up {C} {D} seen may_leave fault_count calls n same history is room lin
     paid : Paid seen fault_count calls n.store.control.grain n (record n { live = false }) w history.entries at.counts.meter
     paid = record {
       metered = at.counts.metered;
+      fits = at.counts.is.fits;
       unfailed = 0;
       disk = disk_of n.meta;
       called = refl;

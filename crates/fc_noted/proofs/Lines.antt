@@ -20,12 +20,12 @@ use Rattle.fc_marks.specs.Meter.{Meter}
 use Rattle.fc_meta.specs.Answers.{more_calls}
 use Rattle.fc_meta.specs.States.{disk_of}
 use Rattle.fc_meta.specs.declared.meta.Meta.{Meta}
-use Rattle.fc_noted.proofs.Calling.{calls_behind}
+use Rattle.fc_noted.proofs.Calling.{calls_behind, stops_behind}
 use Rattle.fc_noted.proofs.KeepingLanes.{lanes_still}
 use Rattle.fc_noted.proofs.MeteringNoted.{no_calls}
 use Rattle.fc_noted.specs.Lines.{LineEnds, LineStops, Ran, ScriptEnds, ScriptStops}
 use Rattle.fc_noted.specs.Making.{KeepLanes, done}
-use Rattle.fc_noted.specs.Stopping.{Halts, Paid}
+use Rattle.fc_noted.specs.Stopping.{Halts, LeftAt, Paid}
 use Rattle.fc_noted.specs.Noted.{CanStep, GoesOnTo, IsAt, IsAtBy, IsNotedAt, Logs, Stays}
 use Rattle.fc_noted.specs.declared.noted.Noted.{Noted}
 use Rattle.fc_noted.specs.declared.noted.UnderWay.{UnderWay}
@@ -245,6 +245,7 @@ module _ {C D : Type 0} (seen : D → List ℕ) (may_leave : D → List ℕ → 
     paid_of : (grain : GrainSize) (next : Whole) (entries : List Entry) (meter : Meter) → Paid seen fault_count calls grain begun new next entries meter → Paid seen fault_count calls grain first new next entries meter
     paid_of grain next entries meter p = record {
       metered = p.metered;
+      fits = p.fits;
       unfailed = p.unfailed;
       disk = p.disk;
       called = p.called ∙ ap (λ (m : Meta D). more_calls p.unfailed (calls (disk_of m))) same;
@@ -252,12 +253,23 @@ module _ {C D : Type 0} (seen : D → List ℕ) (may_leave : D → List ℕ → 
       before = subst (λ (n : ℕ). more_calls meter.calls 0 ≤ more_calls p.unfailed n) count p.before;
     }
 
+    left_of : (grain : GrainSize) (stop : NotedStop) (next : Whole) (left : Agenda) (meter : Meter) → LeftAt seen calls grain stop begun new next left meter → LeftAt seen calls grain stop first new next left meter
+    left_of grain stop next left meter l = record {
+      request = l.request;
+      asked = l.asked;
+      into = l.into;
+      goes = l.goes;
+      stops = stops_behind seen fault_count calls stop first begun new l.into (no_calls seen fault_count calls done first begun count same (λ told. cc)) l.stops;
+    }
+
     halts_of : (grain : GrainSize) (read : Reading) (stop : NotedStop) (a : Agenda) (w : Whole) (before after : HistoryState) →
         Halts seen may_leave fault_count calls grain read stop a begun new w before after → Halts seen may_leave fault_count calls grain read stop a first new w before after
     halts_of grain read LogFull a w before after h = h
     halts_of grain read NoMemory a w before after h = (h.0, h.1, h.2, h.3, (h.4.0, paid_of grain h.0 after.entries h.4.0 h.4.1, h.4.2), h.5)
-    halts_of grain read MetaFailed a w before after h = (h.0, h.1, h.2, h.3, (h.4.0, paid_of grain h.0 after.entries h.4.0 h.4.1, h.4.2), h.5)
-    halts_of grain read MetaFull a w before after h = (h.0, h.1, h.2, h.3, (h.4.0, paid_of grain h.0 after.entries h.4.0 h.4.1, h.4.2), h.5)
+    halts_of grain read MetaFailed a w before after h =
+        (h.0, h.1, h.2, h.3, (h.4.0, paid_of grain h.0 after.entries h.4.0 h.4.1, left_of grain MetaFailed h.0 h.1 h.4.0 h.4.2), h.5)
+    halts_of grain read MetaFull a w before after h =
+        (h.0, h.1, h.2, h.3, (h.4.0, paid_of grain h.0 after.entries h.4.0 h.4.1, left_of grain MetaFull h.0 h.1 h.4.0 h.4.2), h.5)
 
   module _ (first begun : Noted C D) (before : HistoryState) (line : Result Line WordFault) (others : begun ≡ record first { script = begun.script })
       (goes : (w : Whole) → StandsFor first.store w → GoesOn first.store.control.grain w (line_read first.store.control.grain w line []) (agenda_of first.store.control.grain begun.script))
