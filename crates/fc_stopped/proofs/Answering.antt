@@ -24,7 +24,7 @@ use Rattle.fc_marks.specs.declared.error.NotedStop.TheVariants.{LogFull, MetaFai
 use Rattle.fc_noted.specs.Lines.{LineEnds, LineStops, Ran}
 use Rattle.fc_noted.specs.Making.{KeepLanes, KeepsCount}
 use Rattle.fc_noted.specs.Noted.{IsNotedAt}
-use Rattle.fc_noted.specs.Stopping.{LeftAt, Leaves, LineHalts, Paid}
+use Rattle.fc_noted.specs.Stopping.{LeftAt, Leaves, LineHalts, OfMetadata, Paid}
 use Rattle.fc_noted.specs.declared.noted.Noted.{Noted}
 use Rattle.fc_owner.proofs.LineAnswers.{AddsSome, history_grows, names_stay}
 use Rattle.fc_owner.proofs.Names.{legal_names}
@@ -140,11 +140,11 @@ module _ {C D : Type 0} (seen : D → List ℕ) (may_leave : D → List ℕ → 
 
     -- what it cost
     costs_left : (halt : NotedStop) (next : Whole) (left : Agenda) (meter : Meter) → KeepsCount {T = Unit {0}} seen fault_count calls (Err halt) n now →
-        Paid seen fault_count calls n.store.control.grain n now next new.entries meter → ((halt ≡ MetaFailed) → LeftAt seen n.store.control.grain now next left meter) → CallsLeft s.number s.half (Some halt) new.entries next left
+        Paid seen fault_count calls n.store.control.grain n now next new.entries meter → OfMetadata halt (LeftAt seen calls n.store.control.grain halt n now next left meter) → CallsLeft s.number s.half (Some halt) new.entries next left
     costs_left halt next left meter k paid at =
         let size : n.store.control.grain ≡ K64 = a.grain ∙ a.sized in
         calls_left seen may_leave fault_count calls s n now next left new.entries meter a.counted (subst (λ (g : GrainSize). Paid seen fault_count calls g n now next new.entries meter) size paid) halt k
-        (λ is. subst (λ (g : GrainSize). LeftAt seen g now next left meter) size (at is))
+        (subst (λ (g : GrainSize). OfMetadata halt (LeftAt seen calls g halt n now next left meter)) size at)
 
     -- A line that isn't answered to its end leaves the first of it.
     pub line_halted : (halt : NotedStop) → LineHalts seen may_leave fault_count calls stop_reading halt n now line a.last old new → KeepsCount {T = Unit {0}} seen fault_count calls (Err halt) n now →

@@ -26,6 +26,7 @@ use Rattle.fc_meta.specs.States.{disk_of, room_of}
 use Rattle.fc_metadisk.specs.Disk.{Only}
 use Rattle.fc_metadisk.specs.Stop.{StopLeaves, StopState, new_stop}
 use Rattle.fc_noted.proofs.Counting.{has_counted}
+use Rattle.fc_noted.specs.Metered.{FirstPasses}
 use Rattle.fc_noted.specs.Noted.{BeginsOver, IsNotedAt, NoHistory}
 use Rattle.fc_noted.specs.Stopping.{AreCounted, LeavesFirst}
 use Rattle.fc_noted.specs.declared.noted.Noted.{Noted}
@@ -190,8 +191,8 @@ module _ (number half : ℕ) (call : Call) (bytes : List ℕ) (lanes : List Lane
         disks = all_back call.status call.disks call.disks' w (given_back (over_disks call.disks) lanes call.disks' w has all apart counted);
       }
 
-  pub unopened_ends : (stop : NotedStop) → ((stop ≡ MetaFailed) → number ≤ 4) → EndsUnopened number (recovered bytes) stop call.status call.sink call.sink' → StopEnds number half call
-  unopened_ends LogFull first ends = absurd ends
-  unopened_ends NoMemory first ends = starved_named number half call ends.0 source ends.1 main
-  unopened_ends MetaFailed first ends = unopened_put (ToCall number) record { few = omega arith; lines = no_lines call none; costs = (refl, inl (none, first refl)) } ends
-  unopened_ends MetaFull first ends = unopened_put ToFull record { few = omega arith; lines = no_lines call none; costs = inl none } ends
+  pub unopened_ends : (stop : NotedStop) → ((stop ≡ MetaFailed) → number ≤ 4) → ((stop ≡ MetaFull) → FirstPasses half) → EndsUnopened number (recovered bytes) stop call.status call.sink call.sink' → StopEnds number half call
+  unopened_ends LogFull first full ends = absurd ends
+  unopened_ends NoMemory first full ends = starved_named number half call ends.0 source ends.1 main
+  unopened_ends MetaFailed first full ends = unopened_put (ToCall number) record { few = omega arith; lines = no_lines call none; costs = (refl, inl (none, first refl)) } ends
+  unopened_ends MetaFull first full ends = unopened_put ToFull record { few = omega arith; lines = no_lines call none; costs = inl (none, full refl) } ends

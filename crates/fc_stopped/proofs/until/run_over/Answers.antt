@@ -7,6 +7,7 @@ use Rattle.fc_lane.specs.Lane.{LaneView}
 use Rattle.fc_lanes.specs.Dealing.{AreAllIn, AreByLane, disks_in}
 use Rattle.fc_mdisk.specs.Disk.{DiskState}
 use Rattle.fc_metadisk.specs.Stop.{StopState, found_after}
+use Rattle.fc_noted.specs.Metered.{FirstPasses}
 use Rattle.fc_noted.specs.Stopping.{AreCounted}
 use Rattle.fc_owner.specs.FirstTold.{first_told}
 use Rattle.fc_stands.specs.Store.{StoreView}
@@ -104,4 +105,5 @@ returns-in-Err-over-clause-ends g c =
     (subst (λ (xs : List g.row.D.Denot). AreByLane lanes (map m xs)) (sym back) c.give_disks.ensures.3)
     c.in-Err-over.stop
     (λ is. first_failed c.requires.zeros.0 c.args.call c.of.result c.in-Err-over.meta (c.of.ensures ∙ c.requires.zeros.1) c.requires.counted (omega arith) (c.in-Err-over.ensures.within is) (c.in-Err-over.ensures.failed is))
+    (λ is. subst (λ (d : StopState). FirstPasses (half_size d.bytes)) c.of.ensures (c.in-Err-over.ensures.full is))
     c.end_unopened.ensures
