@@ -1,3 +1,4 @@
 -- Lemmas on what is put into metadata.
 pub mod Leaving
 pub mod Counting
+pub mod Folding
