@@ -23,13 +23,14 @@ use Rattle.fc_kept.specs.Sound.{IsSoundImage}
 use Rattle.fc_lane.specs.Lane.{LaneView}
 use Rattle.fc_lane.specs.declared.doing.Doing.{Doing}
 use Rattle.fc_legal.specs.Whole.{Whole}
-use Rattle.fc_marks.specs.Meter.{IsMetered, Meter, with_record}
+use Rattle.fc_marks.specs.Meter.{IsCutShort, IsMetered, Meter, with_record}
 use Rattle.fc_marks.specs.declared.error.NotedStop.{NotedStop}
 use Rattle.fc_marks.specs.declared.error.NotedStop.TheVariants.{LogFull}
 use Rattle.fc_meta.specs.Answers.{LeavesEither, found_with, more_calls}
 use Rattle.fc_meta.specs.States.{IsResting, found, room_of}
 use Rattle.fc_meta.specs.declared.meta.Meta.{Meta}
 use Rattle.fc_metadisk.specs.Disk.{LeavesOnly}
+use Rattle.fc_noted.proofs.CallsMade.{any_metadata}
 use Rattle.fc_noted.proofs.Data.{acted_none, doing_goes, hand_none, have_still, matches_none, same_ask}
 use Rattle.fc_noted.proofs.Fitting.{IsFit, alone_fits}
 use Rattle.fc_noted.proofs.GoingAlong.{matches_along}
@@ -152,10 +153,10 @@ module _ {C D : Type 0} (seen : D → List ℕ) (may_leave : D → List ℕ → 
     failed_leaves = way_leaves seen may_leave n way history w least d x fit with_it moment left_since counts_now meta calls n.marks run n.under_way
 
     -- what is asked for goes so far into metadata
-    alone_into : CountsInto seen old left history w
-    alone_into =
+    alone_into : (stop : NotedStop) → IsCutShort seen disk_calls stop n.meta meta (with_record (room_of seen n.meta) (uncopied m)) → CountsInto seen disk_calls stop old left history w
+    alone_into stop =
         let a = uncopied_so grain w least way.place way.doing begun now d.steps d.before d.point hand d.counts.actions (acted_none seen may_leave old way history w least d none) m next copies in
-        goes_into_record seen may_leave old left way history w least d x (steps_done way.doing.steps + 1) None None a.so_far counted
+        goes_into_record seen may_leave old left way history w least d disk_calls stop x (steps_done way.doing.steps + 1) None None a.so_far counted
 
     -- ---- the move is made
 
@@ -263,6 +264,8 @@ module _ {C D : Type 0} (seen : D → List ℕ) (may_leave : D → List ℕ → 
       WayMade seen may_leave moment left_since disk_calls done n way (record z { store = store; under_way = Some (record { place = way.place; doing = doing; due = None }) }) history history in
       subst Makes (sym e) (λ step' is'. alone_made end doing store step' is' rests says size metered history) step is
 
-  pub alone_failed : (result : Result (Unit {0}) NotedStop) (given stop : NotedStop) → result ≡ Err given → given ≡ stop → (stop ≡ LogFull → ⊥) → (history : HistoryState) →
-      WayMade seen may_leave moment left_since disk_calls result n way left history history
-  alone_failed result given stop e same other = way_stops seen may_leave moment left_since disk_calls n left way failed_leaves result given stop e same other alone_stops (λ history w least d is. alone_into history w least d)
+  pub alone_failed : (result : Result (Unit {0}) NotedStop) (given stop : NotedStop) → result ≡ Err given → given ≡ stop → (stop ≡ LogFull → ⊥) →
+      IsCutShort seen disk_calls stop n.meta meta (with_record (room_of seen n.meta) (uncopied m)) → (history : HistoryState) → WayMade seen may_leave moment left_since disk_calls result n way left history history
+  alone_failed result given stop e same other short =
+      way_stops seen may_leave moment left_since disk_calls n left way failed_leaves result given stop e same other alone_stops
+      (λ history. any_metadata stop (λ w least d. alone_into history w least d stop short))

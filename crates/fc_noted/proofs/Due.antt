@@ -12,13 +12,14 @@ use Rattle.fc_kept.specs.Images.{kept_in}
 use Rattle.fc_kept.specs.Kept.{kept_after}
 use Rattle.fc_kept.specs.Sound.{IsSoundImage}
 use Rattle.fc_legal.specs.Whole.{Whole}
-use Rattle.fc_marks.specs.Meter.{IsMetered, Meter, with_record}
+use Rattle.fc_marks.specs.Meter.{IsCutShort, IsMetered, Meter, with_record}
 use Rattle.fc_marks.specs.declared.error.NotedStop.{NotedStop}
 use Rattle.fc_marks.specs.declared.error.NotedStop.TheVariants.{LogFull}
 use Rattle.fc_meta.specs.Answers.{LeavesEither, found_with, more_calls}
 use Rattle.fc_meta.specs.States.{IsResting, found, room_of}
 use Rattle.fc_meta.specs.declared.meta.Meta.{Meta}
 use Rattle.fc_metadisk.specs.Disk.{LeavesOnly}
+use Rattle.fc_noted.proofs.CallsMade.{any_metadata}
 use Rattle.fc_noted.proofs.Fitting.{IsFit, due_fits}
 use Rattle.fc_noted.proofs.InHand.{in_hand, put_recovered}
 use Rattle.fc_noted.proofs.Metering.{put_so}
@@ -98,15 +99,16 @@ module _ {C D : Type 0} (seen : D → List ℕ) (may_leave : D → List ℕ → 
     due_stops = way_stopped seen may_leave n way history w least d x fit with_it moment left_since counts_now meta calls n.marks run
 
     -- what is asked for goes so far into metadata
-    due_into : CountsInto seen old left history w
-    due_into = goes_into_record seen may_leave old left way history w least d x (steps_done way.doing.steps) way.doing.steps.stop None acted.so_far counted
+    due_into : (stop : NotedStop) → IsCutShort seen disk_calls stop n.meta meta (with_record (room_of seen n.meta) x) → CountsInto seen disk_calls stop old left history w
+    due_into stop = goes_into_record seen may_leave old left way history w least d disk_calls stop x (steps_done way.doing.steps) way.doing.steps.stop None acted.so_far counted
 
   pub due_made : IsResting seen may_leave meta → found seen meta ≡ found_with (found seen n.meta) (x ∷ []) → room_of seen meta ≡ room_of seen n.meta → Puts → (history : HistoryState) →
       WayMade seen may_leave moment left_since disk_calls done n way new history history
   due_made rests says size metered =
       way_goes seen may_leave moment left_since disk_calls n new way (λ history w least d. due_leaves history w least d (Some way_new)) way_new live refl refl refl (λ history w least d. due_doing history w least d rests says size metered)
 
-  pub due_failed : (result : Result (Unit {0}) NotedStop) (given stop : NotedStop) → result ≡ Err given → given ≡ stop → (stop ≡ LogFull → ⊥) → (history : HistoryState) →
-      WayMade seen may_leave moment left_since disk_calls result n way left history history
-  due_failed result given stop e same other =
-      way_stops seen may_leave moment left_since disk_calls n left way (λ history w least d. due_leaves history w least d n.under_way) result given stop e same other due_stops (λ history w least d is. due_into history w least d)
+  pub due_failed : (result : Result (Unit {0}) NotedStop) (given stop : NotedStop) → result ≡ Err given → given ≡ stop → (stop ≡ LogFull → ⊥) →
+      IsCutShort seen disk_calls stop n.meta meta (with_record (room_of seen n.meta) x) → (history : HistoryState) → WayMade seen may_leave moment left_since disk_calls result n way left history history
+  due_failed result given stop e same other short =
+      way_stops seen may_leave moment left_since disk_calls n left way (λ history w least d. due_leaves history w least d n.under_way) result given stop e same other due_stops
+      (λ history. any_metadata stop (λ w least d. due_into history w least d stop short))

@@ -25,7 +25,7 @@ use Rattle.fc_legal.specs.Steps.{Step, after_access}
 use Rattle.fc_legal.specs.Whole.{Whole, single_lane}
 use Rattle.fc_marks.specs.Marks.{marked}
 use Rattle.fc_marks.specs.declared.error.NotedStop.{NotedStop}
-use Rattle.fc_marks.specs.declared.error.NotedStop.TheVariants.{LogFull, MetaFailed, NoMemory as WantsMemory}
+use Rattle.fc_marks.specs.declared.error.NotedStop.TheVariants.{LogFull, NoMemory as WantsMemory}
 use Rattle.fc_marks.specs.declared.marks.Mark.{Mark}
 use Rattle.fc_meta.specs.States.{room_of}
 use Rattle.fc_metadisk.specs.Disk.{LeavesOnly}

@@ -21,14 +21,15 @@ use Rattle.fc_kept.specs.Sound.{IsSoundImage}
 use Rattle.fc_lane.specs.Lane.{LaneView}
 use Rattle.fc_legal.specs.Whole.{Whole}
 use Rattle.fc_marks.specs.Marks.{is_open_any, marked}
-use Rattle.fc_marks.specs.Meter.{IsMetered, Meter, with_record}
+use Rattle.fc_marks.specs.Meter.{IsCutShort, IsMetered, Meter, with_record}
 use Rattle.fc_marks.specs.declared.error.NotedStop.{NotedStop}
-use Rattle.fc_marks.specs.declared.error.NotedStop.TheVariants.{LogFull, MetaFailed}
+use Rattle.fc_marks.specs.declared.error.NotedStop.TheVariants.{LogFull, NoMemory as WantsMemory}
 use Rattle.fc_marks.specs.declared.marks.Mark.{Mark}
 use Rattle.fc_meta.specs.Answers.{LeavesEither, found_with, more_calls}
 use Rattle.fc_meta.specs.States.{IsResting, found, room_of}
 use Rattle.fc_meta.specs.declared.meta.Meta.{Meta}
 use Rattle.fc_metadisk.specs.Disk.{LeavesOnly}
+use Rattle.fc_noted.proofs.CallsMade.{any_metadata}
 use Rattle.fc_noted.proofs.Data.{acted_none, hand_none, rows_are}
 use Rattle.fc_noted.proofs.Fitting.{IsFit, mark_fits}
 use Rattle.fc_noted.proofs.InHand.{doing_counted, mark_recovered}
@@ -141,8 +142,8 @@ module _ {C D : Type 0} (seen : D → List ℕ) (may_leave : D → List ℕ → 
     mark_stops = way_stopped seen may_leave n way history w least d x fit with_it moment left_since counts_now meta calls marks run
 
     -- what is asked for goes so far into metadata
-    mark_into : CountsInto seen old left history w
-    mark_into = goes_into_record seen may_leave old left way history w least d x (steps_done way.doing.steps) way.doing.steps.stop None acted.so_far counted
+    mark_into : (stop : NotedStop) → IsCutShort seen disk_calls stop n.meta meta (with_record (room_of seen n.meta) (Changing part.volume way.doing.steps.grain)) → CountsInto seen disk_calls stop old left history w
+    mark_into stop = goes_into_record seen may_leave old left way history w least d disk_calls stop x (steps_done way.doing.steps) way.doing.steps.stop None acted.so_far counted
 
   mark_made : IsResting seen may_leave meta → found seen meta ≡ found_with (found seen n.meta) (Changing part.volume way.doing.steps.grain ∷ []) → room_of seen meta ≡ room_of seen n.meta → Puts → (history : HistoryState) →
       WayMade seen may_leave moment left_since disk_calls done n way new history history
@@ -156,26 +157,28 @@ module _ {C D : Type 0} (seen : D → List ℕ) (may_leave : D → List ℕ → 
       let same : way ≡ way_new = λ i. record { place = way.place; doing = way.doing; due = none i } in
       subst (λ (z : UnderWay). WayMade seen may_leave moment left_since disk_calls done n way (record n { meta = meta; calls = calls; marks = marks; under_way = Some z }) history history) (sym same) (mark_made rests says size metered history)
 
-  pub mark_failed : (result : Result (Unit {0}) NotedStop) (given stop : NotedStop) → result ≡ Err given → given ≡ stop → (stop ≡ LogFull → ⊥) → (history : HistoryState) →
-      WayMade seen may_leave moment left_since disk_calls result n way (left) history history
-  mark_failed result given stop e same other =
-      way_stops seen may_leave moment left_since disk_calls n left way (λ history w least d. mark_leaves history w least d n.under_way) result given stop e same other mark_stops (λ history w least d is. mark_into history w least d)
+  pub mark_failed : (result : Result (Unit {0}) NotedStop) (given stop : NotedStop) → result ≡ Err given → given ≡ stop → (stop ≡ LogFull → ⊥) →
+      IsCutShort seen disk_calls stop n.meta meta (with_record (room_of seen n.meta) (Changing part.volume way.doing.steps.grain)) → (history : HistoryState) →
+      WayMade seen may_leave moment left_since disk_calls result n way left history history
+  mark_failed result given stop e same other short =
+      way_stops seen may_leave moment left_since disk_calls n left way (λ history w least d. mark_leaves history w least d n.under_way) result given stop e same other mark_stops
+      (λ history. any_metadata stop (λ w least d. mark_into history w least d stop short))
 
--- refused before the disk of metadata is called
+-- memory was wanted before the disk of metadata is called
 module _ {C D : Type 0} (seen : D → List ℕ) (may_leave : D → List ℕ → Type 0) (moment : D → ℕ) (left_since : D → ℕ → List ℕ → Type 0) (disk_calls : D → ℕ) (only_now : (disk : D) (c : List ℕ) → left_since disk (moment disk) c → may_leave disk c)
     (n : Noted C D) (way : UnderWay) (marks : Vec Mark Global) where
-  pub mark_refused : (result : Result (Unit {0}) NotedStop) (given stop : NotedStop) → result ≡ Err given → given ≡ stop → (stop ≡ LogFull → ⊥) → (stop ≡ MetaFailed → ⊥) → (history : HistoryState) →
+  pub mark_refused : (result : Result (Unit {0}) NotedStop) (given : NotedStop) → result ≡ Err given → given ≡ WantsMemory → (history : HistoryState) →
       WayMade seen may_leave moment left_since disk_calls result n way (record n { marks = marks }) history history
-  mark_refused result given stop e same other quiet =
+  mark_refused result given e same =
       let old : Noted C D = record n { under_way = Some way } in
       let new : Noted C D = record n { marks = marks } in
       way_stops seen may_leave moment left_since disk_calls n new way
       (λ history w least d. still_leaves seen may_leave moment left_since only_now old new w least d.keeps.image refl d.keeps.says d.keeps.rests.durable
       (hold_either n.store n.store n.script n.named w least d.keeps.image refl (doing_found seen may_leave old way history w least d) (doing_found seen may_leave old way history w least d)))
-      result given stop e same other
+      result given WantsMemory e same (λ f. absurd cc)
       (λ history w least d. record {
         volumes = d.keeps.volumes;
         counted = doing_counted seen may_leave old way history w least d;
         leaves = λ c left. (d.keeps.image, ap recovered (d.keeps.rests.durable c left) ∙ d.keeps.says, doing_found seen may_leave old way history w least d);
       })
-      (λ history w least d failed. absurd (quiet failed))
+      (λ history. tt)

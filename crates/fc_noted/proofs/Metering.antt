@@ -1,5 +1,5 @@
 -- How the actions of an entry go on, record by record, and what they cost metadata.
-use Rattle.std.proofs.Common.{◌≡◌, ℕ, ◌+◌, ◌==◌, ◌≤◌, Bool, true, false, cond, List, [], ◌∷◌, ◌++◌, length, Option, Some, None, refl, sym, ap, subst, ◌∙◌, length-append, arith}
+use Rattle.std.proofs.Common.{◌≡◌, ℕ, ◌+◌, ◌==◌, ◌≤◌, Bool, true, false, cond, ltb, if◌then◌else◌, List, [], ◌∷◌, ◌++◌, length, Option, Some, None, refl, sym, ap, subst, ◌∙◌, length-append, arith}
 use Rattle.std.specs.List.{list_any}
 use Rattle.std.proofs.lemmas.Grind.{fold-append}
 use Rattle.std.proofs.lemmas.List.{append_assoc, append-nil}
@@ -8,6 +8,7 @@ use Rattle.fc_base.specs.declared.request.Request.{Request}
 use Rattle.fc_base.specs.declared.request.Torn.{Torn}
 use Rattle.fc_base.specs.declared.size.GrainSize.{GrainSize}
 use Rattle.fc_changed.specs.Row.{Row}
+use Rattle.fc_image.specs.declared.image.MetaImage.{MetaImage}
 use Rattle.fc_image.specs.declared.record.MetaRecord.{MetaRecord}
 use Rattle.fc_image.specs.declared.record.MetaRecord.TheVariants.{Pair, Written, Torn as TornRecord, Changing}
 use Rattle.fc_kept.specs.Actions.{Action, Action.Data, Action.Note, Action.Fold, data_of, is_unmarked, mark_of, record_of_move}
@@ -16,7 +17,7 @@ use Rattle.fc_kept.specs.Kept.{rows_kept}
 use Rattle.fc_kept.specs.Prefix.{AreStepsOf}
 use Rattle.fc_legal.specs.Whole.{Whole}
 use Rattle.fc_marks.proofs.Counting.{costs_least}
-use Rattle.fc_marks.specs.Meter.{Meter, with_fold, with_record}
+use Rattle.fc_marks.specs.Meter.{Meter, batch_size, first_full, passes_half, with_batch, with_fold, with_record}
 use Rattle.fc_noted.specs.Metered.{Acted, GoesInto, GoesInto.first as into_first, GoesInto.tears as into_tears, SoFar, SoFar.behind, SoFar.marked, SoFar.waits, SoFar.stopped, SoFar.tears, actions_stopped, after_action, after_actions, rows_behind, rows_by_action}
 use Rattle.fc_rules.specs.Steps.{DiskStep}
 use Rattle.fc_steps.specs.StepsEnd.{torn_in}
@@ -54,8 +55,34 @@ calls_grow half m (Note note ∷ rest) =
     let more = calls_grow half (with_record half note m) rest in
     omega (arith, one, more)
 calls_grow half m (Fold ∷ rest) =
-    let more : m.calls + 6 ≤ (after_actions half (with_fold m.image m) rest).calls = calls_grow half (with_fold m.image m) rest in
+    let more : m.calls + 6 ≤ (after_actions half (with_fold half m.image m) rest).calls = calls_grow half (with_fold half m.image m) rest in
     omega (arith, more)
+
+-- what passed the half before them stays seen
+first_before : (o : Option ℕ) (passes : Bool) (calls : ℕ) → first_full o passes calls ≡ None → o ≡ None
+first_before (Some at) passes calls e = e
+first_before None passes calls e = refl
+
+pub full_before_fold : (half : ℕ) (image : MetaImage) (m : Meter) → (with_fold half image m).full ≡ None → m.full ≡ None
+full_before_fold half image m e = first_before m.full (passes_half half m.generation image) (m.calls + 2) e
+
+full_before_batch : (half : ℕ) (note : MetaRecord) (m : Meter) → (with_batch half note m).full ≡ None → m.full ≡ None
+full_before_batch half note m e = first_before m.full (ltb half (m.used + 1 + batch_size note)) m.calls e
+
+either_before : (b : Bool) (one other : Meter) (o : Option ℕ) → (one.full ≡ None → o ≡ None) → (other.full ≡ None → o ≡ None) → (if b then one else other).full ≡ None → o ≡ None
+either_before true one other o first second e = first e
+either_before false one other o first second e = second e
+
+full_before_record : (half : ℕ) (note : MetaRecord) (m : Meter) → (with_record half note m).full ≡ None → m.full ≡ None
+full_before_record half note m e =
+    either_before (ltb half (m.used + 1 + batch_size note)) (with_batch half note (with_fold half m.image m)) (with_batch half note m) m.full
+    (λ f. full_before_fold half m.image m (full_before_batch half note (with_fold half m.image m) f)) (full_before_batch half note m) e
+
+pub full_before : (half : ℕ) (m : Meter) (actions : List Action) → (after_actions half m actions).full ≡ None → m.full ≡ None
+full_before half m [] e = e
+full_before half m (Data step ∷ rest) e = full_before half m rest e
+full_before half m (Note note ∷ rest) e = full_before_record half note m (full_before half (with_record half note m) rest e)
+full_before half m (Fold ∷ rest) e = full_before_fold half m.image m (full_before half (with_fold half m.image m) rest e)
 
 -- Those that call the disk of metadata: data don't.
 abbrev pub on_metadata : List Action → List Action

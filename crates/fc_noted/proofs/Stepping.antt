@@ -7,12 +7,13 @@ use Rattle.fc_changed.specs.Row.{Row}
 use Rattle.fc_entry.specs.HistoryState.{HistoryState}
 use Rattle.fc_legal.specs.Agenda.{Asks}
 use Rattle.fc_legal.specs.Whole.{Whole}
-use Rattle.fc_marks.specs.declared.error.NotedStop.TheVariants.{LogFull, MetaFailed}
+use Rattle.fc_marks.specs.declared.error.NotedStop.TheVariants.{LogFull}
 use Rattle.fc_marks.specs.declared.error.NotedStop.{NotedStop}
 use Rattle.fc_metadisk.specs.Disk.{LeavesOnly}
+use Rattle.fc_noted.proofs.CallsMade.{of_metadata}
 use Rattle.fc_noted.specs.Making.{CountsInto, StepMade, WayMade, done}
-use Rattle.fc_noted.specs.Noted.{IsAtBy, IsDoing}
-use Rattle.fc_noted.specs.Stopping.{AsksSome, HasStopped, LeavesRecoverable}
+use Rattle.fc_noted.specs.Noted.{IsAt, IsAtBy, IsDoing}
+use Rattle.fc_noted.specs.Stopping.{AsksSome, HasStopped, LeavesRecoverable, OfMetadata}
 use Rattle.fc_noted.specs.declared.noted.Noted.{Noted}
 use Rattle.fc_noted.specs.declared.noted.UnderWay.{UnderWay}
 use Rattle.fc_script.specs.Passage.{GoesOn}
@@ -36,6 +37,27 @@ module _ {C D : Type 0} (seen : D → List ℕ) (may_leave : D → List ℕ → 
 
   -- ---- an error
 
+  abbrev Into : NotedStop → Noted C D → Type 0
+  Into stop n = (w : Whole) (least : List Row) → IsAt seen may_leave old before w least → CountsInto seen disk_calls stop old n before w
+
+  ended_into : (stop : NotedStop) → Into stop new → Into stop (record new { live = false })
+  ended_into stop into w least at =
+      let x = into w least at in
+      let s = x.stops in
+      record {
+        request = x.request;
+        asking = x.asking;
+        reached = x.reached;
+        asked = x.asked;
+        meter = x.meter;
+        metered = x.metered;
+        fits = x.fits;
+        paid = x.paid;
+        into = x.into;
+        goes = x.goes;
+        stops = record { counted = s.counted; made = s.made; called = s.called; all = s.all; in_all = s.in_all; cause = s.cause };
+      }
+
   ended : (stop : NotedStop) → StepMade seen may_leave moment left_since disk_calls (Err stop) old new before after → StepMade seen may_leave moment left_since disk_calls (Err stop) old (record new { live = false }) before after
   ended stop made =
       record {
@@ -45,9 +67,7 @@ module _ {C D : Type 0} (seen : D → List ℕ) (may_leave : D → List ℕ → 
             let x = made.stopped w least at in
             (x.0, record { volumes = x.1.volumes; counted = x.1.counted; leaves = x.1.leaves });
         full = made.full;
-        into = λ f w least at.
-            let x = made.into f w least at in
-            record { request = x.request; asking = x.asking; reached = x.reached; asked = x.asked; meter = x.meter; metered = x.metered; paid = x.paid; into = x.into; goes = x.goes; calls = x.calls };
+        into = of_metadata stop (ended_into stop) made.into;
       }
 
   pub step_ended : (result : Result Bool NotedStop) → is_err result ≡ true → StepMade seen may_leave moment left_since disk_calls result old new before after →
@@ -99,7 +119,7 @@ module _ {C D : Type 0} (seen : D → List ℕ) (may_leave : D → List ℕ → 
   -- or it stopped
   pub way_stops : (result : Result (Unit {0}) NotedStop) (given stop : NotedStop) → result ≡ Err given → given ≡ stop → (stop ≡ LogFull → ⊥) →
       ((history : HistoryState) (w : Whole) (least : List Row) → IsDoing seen may_leave (record n { under_way = Some way }) way history w least → HasStopped may_leave (record n { under_way = Some way }) new w least) →
-      ((history : HistoryState) (w : Whole) (least : List Row) → IsDoing seen may_leave (record n { under_way = Some way }) way history w least → stop ≡ MetaFailed → CountsInto seen (record n { under_way = Some way }) new history w) →
+      ((history : HistoryState) → OfMetadata stop ((w : Whole) (least : List Row) → IsDoing seen may_leave (record n { under_way = Some way }) way history w least → CountsInto seen disk_calls stop (record n { under_way = Some way }) new history w)) →
       (history : HistoryState) → WayMade seen may_leave moment left_since disk_calls result n way new history history
   way_stops result given stop e same other stops into history =
       subst (λ (z : Result (Unit {0}) NotedStop). WayMade seen may_leave moment left_since disk_calls z n way new history history) (sym (e ∙ ap (λ (z : NotedStop). Err z) same))
@@ -108,5 +128,5 @@ module _ {C D : Type 0} (seen : D → List ℕ) (may_leave : D → List ℕ → 
         any_moment = leaves history;
         stopped = λ w least d. (refl, stops history w least d);
         full = λ f. absurd (other (same_stop stop f));
-        into = λ f w least d. into history w least d (same_stop stop f);
+        into = into history;
       })

@@ -11,4 +11,4 @@ returns-then-is_err-clause-made g c =
 
 pub returns-then-is_err-clause-counted : goal.returns-then-is_err-clause-counted
 returns-then-is_err-clause-counted g c =
-    same_calls g.M.MetaDisk.seen g.M.MetaDisk.fault_count g.M.MetaDisk.calls c.step-made.result c.step-made.result c.args.self.now c.args.self.now c.step-made.new.self _ refl refl refl refl (λ P ok. ok) (λ told. told) c.step-made.ensures.counted
+    same_calls g.M.MetaDisk.seen g.M.MetaDisk.fault_count g.M.MetaDisk.calls c.step-made.result c.step-made.result c.args.self.now c.args.self.now c.step-made.new.self _ refl refl refl refl (λ P ok. ok) (λ told. told) (λ told. told) c.step-made.ensures.counted

@@ -5,7 +5,6 @@ use Rattle.std.proofs.lemmas.Result.{err_from_is_err_and}
 use Rattle.fc_diff.specs.State.{ChangesState}
 use Rattle.fc_lane.specs.Lane.{LaneView}
 use Rattle.fc_marks.specs.declared.error.NotedStop.{NotedStop}
-use Rattle.fc_marks.specs.declared.error.NotedStop.TheVariants.{NoMemory as WantsMemory}
 use Rattle.fc_noted.proofs.Data.{seen_lane}
 use Rattle.fc_noted.proofs.Marked.{mark_failed, mark_made_by, mark_refused, wants_is}
 use Rattle.fc_noted.proofs.KeepingLanes.{lanes_stay, lanes_still}
@@ -16,7 +15,7 @@ use Rattle.fc_noted.proofs.noted.Noted.own.Goals as goal
 pub returns-in_err-remember-clause-made : goal.returns-in_err-remember-clause-made
 returns-in_err-remember-clause-made g c history =
     let p = err_from_is_err_and c.from_residual.result c.from_residual.ensures.1 in
-    mark_refused g.M.MetaDisk.seen g.M.MetaDisk.may_leave g.M.MetaDisk.moment g.M.MetaDisk.left_since g.M.MetaDisk.calls g.met.M.MetaDisk.only_now c.args.self.now c.args.way c.remember.new.marks c.from_residual.result p.0 WantsMemory p.1 p.2 (λ e. absurd cc) (λ e. absurd cc) history
+    mark_refused g.M.MetaDisk.seen g.M.MetaDisk.may_leave g.M.MetaDisk.moment g.M.MetaDisk.left_since g.M.MetaDisk.calls g.met.M.MetaDisk.only_now c.args.self.now c.args.way c.remember.new.marks c.from_residual.result p.0 p.1 p.2 history
 
 pub returns-in_err-put-clause-made : goal.returns-in_err-put-clause-made
 returns-in_err-put-clause-made g c history =
@@ -28,7 +27,7 @@ returns-in_err-put-clause-made g c history =
     subst (λ n. WayMade g.M.MetaDisk.seen g.M.MetaDisk.may_leave g.M.MetaDisk.moment g.M.MetaDisk.left_since g.M.MetaDisk.calls c.from_residual-in_err-put.result c.args.self.now c.args.way n history history) (sym c.in_err-put.ensures.others)
     (mark_failed g.M.MetaDisk.seen g.M.MetaDisk.may_leave g.M.MetaDisk.moment g.M.MetaDisk.left_since g.M.MetaDisk.calls g.met.M.MetaDisk.counts_now c.args.self.now c.args.way c.args.part c.requires.due c.requires.live c.requires.next wants
     c.put.new.self.meta c.put.new.self.calls c.in_err-put.ensures.calls c.remember.new.marks c.in_ok-remember.ensures.ok c.in_err-put.ensures.any_moment
-    c.from_residual-in_err-put.result p.0 c.in_err-put.field-0.0 p.1 p.2 (λ e. c.in_err-put.ensures.not_log (ap (λ (z : NotedStop). Err z) e)) history)
+    c.from_residual-in_err-put.result p.0 c.in_err-put.field-0.0 p.1 p.2 (λ e. c.in_err-put.ensures.not_log (ap (λ (z : NotedStop). Err z) e)) c.in_err-put.ensures.short history)
 
 pub returns-clause-made : goal.returns-clause-made
 returns-clause-made g c history =
@@ -62,4 +61,4 @@ returns-in_err-put-clause-counted g c =
 
 pub returns-clause-counted : goal.returns-clause-counted
 returns-clause-counted g c =
-    same_calls g.M.MetaDisk.seen g.M.MetaDisk.fault_count g.M.MetaDisk.calls done done c.args.self.now _ c.put.new.self _ refl refl refl refl (λ P ok. ok) (λ told. told) c.in_ok-put.ensures.counted
+    same_calls g.M.MetaDisk.seen g.M.MetaDisk.fault_count g.M.MetaDisk.calls done done c.args.self.now _ c.put.new.self _ refl refl refl refl (λ P ok. ok) (λ told. told) (λ told. told) c.in_ok-put.ensures.counted

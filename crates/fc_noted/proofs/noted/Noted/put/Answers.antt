@@ -18,4 +18,4 @@ pub returns-clause-counted : goal.returns-clause-counted
 returns-clause-counted g c =
     put_calls g.M.MetaDisk.seen g.M.MetaDisk.fault_count g.M.MetaDisk.calls g.M.MetaDisk.may_leave c.args.self.now _ c.args.note c.requires.rests c.calls_to_put-calls.result c.calls_to_put-calls.ensures
     (c.saturating_add-self.ensures ∙ at_once c.calls_to_put-calls.result c.args.self.now.calls (omega arith)) c.put_record.ensures.room
-    c.put_record.result c.put_record.ensures.put c.put_record.ensures.quiet c.put_record.ensures.within c.put_record.ensures.failed
+    c.put_record.result c.put_record.ensures.put c.put_record.ensures.quiet c.put_record.ensures.short c.put_record.ensures.failed c.put_record.ensures.unfailed

@@ -15,7 +15,7 @@ returns-in_err-put-clause-made g c history =
     let p = err_from_is_err_and c.from_residual.result c.from_residual.ensures.1 in
     subst (λ n. WayMade g.M.MetaDisk.seen g.M.MetaDisk.may_leave g.M.MetaDisk.moment g.M.MetaDisk.left_since g.M.MetaDisk.calls c.from_residual.result c.args.self.now c.args.way n history history) (sym c.in_err-put.ensures.others)
     (due_failed g.M.MetaDisk.seen g.M.MetaDisk.may_leave g.M.MetaDisk.moment g.M.MetaDisk.left_since g.M.MetaDisk.calls g.met.M.MetaDisk.counts_now c.args.self.now c.args.way c.args.note c.requires.due c.requires.live
-    c.put.new.self.meta c.put.new.self.calls c.in_err-put.ensures.calls c.in_err-put.ensures.any_moment c.from_residual.result p.0 c.in_err-put.field-0.0 p.1 p.2 (λ e. c.in_err-put.ensures.not_log (ap (λ (z : NotedStop). Err z) e)) history)
+    c.put.new.self.meta c.put.new.self.calls c.in_err-put.ensures.calls c.in_err-put.ensures.any_moment c.from_residual.result p.0 c.in_err-put.field-0.0 p.1 p.2 (λ e. c.in_err-put.ensures.not_log (ap (λ (z : NotedStop). Err z) e)) c.in_err-put.ensures.short history)
 
 pub returns-clause-made : goal.returns-clause-made
 returns-clause-made g c history =
@@ -37,4 +37,4 @@ returns-in_err-put-clause-counted g c =
 
 pub returns-clause-counted : goal.returns-clause-counted
 returns-clause-counted g c =
-    same_calls g.M.MetaDisk.seen g.M.MetaDisk.fault_count g.M.MetaDisk.calls done done c.args.self.now c.args.self.now c.put.new.self _ refl refl refl refl (λ P ok. ok) (λ told. told) c.in_ok-put.ensures.counted
+    same_calls g.M.MetaDisk.seen g.M.MetaDisk.fault_count g.M.MetaDisk.calls done done c.args.self.now c.args.self.now c.put.new.self _ refl refl refl refl (λ P ok. ok) (λ told. told) (λ told. told) c.in_ok-put.ensures.counted

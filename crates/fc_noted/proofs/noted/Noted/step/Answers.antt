@@ -34,11 +34,11 @@ returns-in_err-go_on-in-Some-clause-counted g c =
 
 pub returns-in-None-clause-counted : goal.returns-in-None-clause-counted
 returns-in-None-clause-counted g c =
-    same_calls g.M.MetaDisk.seen g.M.MetaDisk.fault_count g.M.MetaDisk.calls c.begin_next.result c.begin_next.result c.args.self.now _ c.begin_next.new.self c.begin_next.new.self refl refl refl refl (λ P ok. ok) (λ told. told) c.begin_next.ensures.counted
+    same_calls g.M.MetaDisk.seen g.M.MetaDisk.fault_count g.M.MetaDisk.calls c.begin_next.result c.begin_next.result c.args.self.now _ c.begin_next.new.self c.begin_next.new.self refl refl refl refl (λ P ok. ok) (λ told. told) (λ told. told) c.begin_next.ensures.counted
 
 pub returns-in_ok-go_on-in-Some-clause-counted : goal.returns-in_ok-go_on-in-Some-clause-counted
 returns-in_ok-go_on-in-Some-clause-counted g c =
-    same_calls g.M.MetaDisk.seen g.M.MetaDisk.fault_count g.M.MetaDisk.calls done (Ok true) c.args.self.now _ c.go_on.new.self c.go_on.new.self refl refl refl refl (λ P ok. ok) (λ told. absurd cc) c.in_ok-go_on-in-Some.ensures.counted
+    same_calls g.M.MetaDisk.seen g.M.MetaDisk.fault_count g.M.MetaDisk.calls done (Ok true) c.args.self.now _ c.go_on.new.self c.go_on.new.self refl refl refl refl (λ P ok. ok) (λ told. absurd cc) (λ told. absurd cc) c.in_ok-go_on-in-Some.ensures.counted
 
 pub go_on-requires-clause-at : goal.go_on-requires-clause-at
 go_on-requires-clause-at g c =
