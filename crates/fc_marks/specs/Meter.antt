@@ -27,7 +27,7 @@ batch_size note = length (batch_bytes (note ∷ []))
 abbrev pub filled_size : MetaImage → ℕ
 filled_size image = length (half_bytes 1 image)
 
--- With its closed gate an image passes a half of so many bytes; or its generation passes the last one.
+-- With the gate before it an image passes a half of so many bytes; or its generation passes the last one.
 abbrev pub passes_half : ℕ → ℕ → MetaImage → Bool
 passes_half half generation image = nat_le (2 ^ 64 - 1) generation || ltb half (1 + filled_size image)
 

@@ -117,7 +117,7 @@ pub record MakesAnew (grain : GrainSize) (w : Whole) (command : Command) (entry 
 
 -- ---- a history
 
--- The first image, which says nothing, passes the half with its closed gate.
+-- With the gate before it the first image, which says nothing, passes the half.
 abbrev pub FirstPasses : ℕ → Type 0
 FirstPasses half = (image : MetaImage) × (kept_in image ≡ nothing_kept) × (half < 1 + filled_size image)
 
