@@ -39,16 +39,10 @@ use Rattle.law_noted.specs.Came.{steps_done}
 which : {T : Type 0} (stop told : NotedStop) → IsErrOf {T = T} (Err stop) told → stop ≡ told
 which stop told e = cc
 
--- where memory alone was wanted, the disk hasn't failed, and nothing passed its half
-memory_told : {T : Type 0} (result : Result T NotedStop) (told : NotedStop) → IfErr result (λ stop. stop ≡ WantsMemory) → IsErrOf result told → WantsMemory ≡ told
-memory_told (Ok a) told e is = absurd cc
-memory_told {T = T} (Err stop) told e is = sym e ∙ which {T = T} stop told is
-
+-- where memory alone was wanted, the disk hasn't failed
 pub memory_alone : {T : Type 0} (result : Result T NotedStop) → IfErr result (λ stop. stop ≡ WantsMemory) → IsErrOf result MetaFailed → ⊥
-memory_alone result e told = let f : WantsMemory ≡ MetaFailed = memory_told result MetaFailed e told in cc
-
-pub memory_not_full : {T : Type 0} (result : Result T NotedStop) → IfErr result (λ stop. stop ≡ WantsMemory) → IsErrOf result MetaFull → ⊥
-memory_not_full result e told = let f : WantsMemory ≡ MetaFull = memory_told result MetaFull e told in cc
+memory_alone (Ok a) e told = cc
+memory_alone {T = T} (Err stop) e told = let f : WantsMemory ≡ MetaFailed = sym e ∙ which {T = T} stop MetaFailed told in cc
 
 module _ {C D : Type 0} (seen : D → List ℕ) (fault_count calls : D → ℕ) where
   -- none
