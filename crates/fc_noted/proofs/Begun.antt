@@ -15,12 +15,12 @@ use Rattle.fc_legal.specs.Whole.{Whole, lane_at, lanes}
 use Rattle.fc_image.specs.declared.image.MetaImage.{MetaImage}
 use Rattle.fc_kept.specs.Images.{kept_in}
 use Rattle.fc_kept.specs.Kept.{Kept}
-use Rattle.fc_marks.specs.declared.error.NotedStop.TheVariants.{LogFull, MetaFailed}
+use Rattle.fc_marks.specs.declared.error.NotedStop.TheVariants.{LogFull}
 use Rattle.fc_meta.specs.States.{found}
 use Rattle.fc_noted.specs.Metered.{Acted}
 use Rattle.fc_marks.specs.declared.error.NotedStop.{NotedStop}
 use Rattle.fc_noted.proofs.Beginning.{begun_steps, begun_steps_are}
-use Rattle.fc_noted.proofs.CallsMade.{counts_still, one_image}
+use Rattle.fc_noted.proofs.CallsMade.{counts_still, of_metadata, one_image}
 use Rattle.fc_noted.proofs.Counting.{has_counted}
 use Rattle.fc_noted.proofs.Holding.{HoldSame, have_same, match_same, one_same}
 use Rattle.fc_noted.proofs.Metering.{begun_so}
@@ -28,7 +28,7 @@ use Rattle.fc_noted.proofs.Moments.{doing_found, hold_either, resting_found, sti
 use Rattle.fc_noted.proofs.Stepping.{same_stop}
 use Rattle.fc_noted.specs.Making.{StepMade}
 use Rattle.fc_noted.specs.Noted.{CanBegin, IsAt, IsAtBy, IsDoing, IsNotedAt}
-use Rattle.fc_noted.specs.Stopping.{MayBeRecovered}
+use Rattle.fc_noted.specs.Stopping.{MayBeRecovered, OfMetadata}
 use Rattle.fc_noted.specs.declared.noted.Noted.{Noted}
 use Rattle.fc_noted.specs.declared.noted.UnderWay.{UnderWay}
 use Rattle.fc_parts.specs.Law.{IsInVolume}
@@ -211,7 +211,7 @@ module _ {C D : Type 0} (seen : D → List ℕ) (may_leave : D → List ℕ → 
 
   -- ---- it stopped there
 
-  pub stopped_made : (stop : NotedStop) → (stop ≡ LogFull → 262144 ≤ length history.entries) → (stop ≡ MetaFailed → ⊥) → StepMade seen may_leave moment left_since disk_calls (Err stop) old (record old { store = roomy }) history history
+  pub stopped_made : (stop : NotedStop) → (stop ≡ LogFull → 262144 ≤ length history.entries) → OfMetadata stop ⊥ → StepMade seen may_leave moment left_since disk_calls (Err stop) old (record old { store = roomy }) history history
   stopped_made stop full never =
       record {
         on = tt;
@@ -231,7 +231,7 @@ module _ {C D : Type 0} (seen : D → List ℕ) (may_leave : D → List ℕ → 
               },
             );
         full = λ e. full (same_stop stop e);
-        into = λ e. absurd (never (same_stop stop e));
+        into = of_metadata stop (λ (no : ⊥). absurd no) never;
       }
 
   -- ---- an entry is under way

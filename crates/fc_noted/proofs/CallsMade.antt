@@ -1,18 +1,21 @@
 -- What the count of calls says of a noted store whose metadata stays, or is made anew.
-use Rattle.std.proofs.Common.{◌≡◌, ℕ, ◌+◌, ◌/◌, ◌≤◌, List, length, Result, Ok, Err, OnOk, refl, sym, ap, subst, ◌∙◌, arith}
-use Rattle.std.specs.Prelude.{IsErrOf}
+use Rattle.std.proofs.Common.{◌≡◌, ℕ, ◌+◌, ◌/◌, ◌≤◌, List, length, Result, Ok, Err, IfErr, IsErrAnd, OnOk, refl, sym, ap, subst, ◌∙◌, arith}
+use Rattle.std.specs.Prelude.{IsErrOf, ⊤}
 use Rattle.fc_base.specs.Count.{HasRisen}
 use Rattle.fc_desk.specs.Control.{ControlState}
 use Rattle.fc_entry.specs.declared.entry.Entry.{Entry}
 use Rattle.fc_format.specs.Halves.{Found, Image}
 use Rattle.fc_image.specs.declared.image.MetaImage.{MetaImage}
 use Rattle.fc_legal.specs.Whole.{Whole}
-use Rattle.fc_marks.specs.Meter.{HasCause, IsMetered, Meter}
+use Rattle.fc_marks.specs.Meter.{HasCause, IsCalledUpTo, IsMetered, Meter}
+use Rattle.fc_marks.specs.Stops.{stop_of_meta}
 use Rattle.fc_marks.specs.declared.error.NotedStop.TheVariants.{LogFull, MetaFailed, MetaFull, NoMemory as WantsMemory}
 use Rattle.fc_marks.specs.declared.error.NotedStop.{NotedStop}
 use Rattle.fc_meta.proofs.Asked.{calls_added}
 use Rattle.fc_meta.specs.Answers.{more_calls}
 use Rattle.fc_meta.specs.States.{disk_of, room_of}
+use Rattle.fc_meta.specs.declared.error.MetaError.TheVariants.{Failed, Full, NoMemory}
+use Rattle.fc_meta.specs.declared.error.MetaError.{MetaError}
 use Rattle.fc_noted.specs.Making.{KeepsCount}
 use Rattle.fc_noted.specs.Metered.{Metered}
 use Rattle.fc_noted.specs.Noted.{Counts}
@@ -24,11 +27,11 @@ on_ok (Ok x) P p = p
 on_ok (Err e) P p = tt
 
 -- an error told by another result
-pub failed_as : {T U : Type 0} (stop : NotedStop) → IsErrOf {T = T} (Err stop) MetaFailed → IsErrOf {T = U} (Err stop) MetaFailed
+pub failed_as : {T U : Type 0} {told : NotedStop} (stop : NotedStop) → IsErrOf {T = T} (Err stop) told → IsErrOf {T = U} (Err stop) told
 failed_as stop e = cc
 
 -- what is done is no error; and the disk hasn't failed where memory was wanted, or where the history is full
-pub no_error : {T : Type 0} (x : T) → IsErrOf {T = T} (Ok x) MetaFailed → ⊥
+pub no_error : {T : Type 0} {told : NotedStop} (x : T) → IsErrOf {T = T} (Ok x) told → ⊥
 no_error x e = cc
 
 pub memory_wanted : {T : Type 0} → IsErrOf {T = T} (Err WantsMemory) MetaFailed → ⊥
@@ -36,6 +39,16 @@ memory_wanted e = cc
 
 pub log_full : {T : Type 0} → IsErrOf {T = T} (Err LogFull) MetaFailed → ⊥
 log_full e = cc
+
+-- nor has anything passed the half where memory alone was wanted, or where the disk failed
+pub memory_alone_full : {T : Type 0} (result : Result T NotedStop) → IfErr result (λ stop. stop ≡ WantsMemory) → IsErrOf result MetaFull → ⊥
+memory_alone_full (Ok x) wanted told = cc
+memory_alone_full (Err stop) wanted told = let full : stop ≡ MetaFull = cc in let same : WantsMemory ≡ MetaFull = sym wanted ∙ full in cc
+
+pub full_unfailed : (e : MetaError) → stop_of_meta e ≡ MetaFull → IsErrOf {T = ⊤} (Err e) Failed → ⊥
+full_unfailed Failed full told = cc
+full_unfailed Full full told = cc
+full_unfailed NoMemory full told = cc
 
 -- what is found is one image
 pub one_image : (f : Found) (a b : MetaImage) → f ≡ Image a → f ≡ Image b → a ≡ b
@@ -59,6 +72,18 @@ any_metadata MetaFull p = p
 any_metadata LogFull p = tt
 any_metadata WantsMemory p = tt
 
+-- memory was wanted
+pub wanted_alone : {T : Type 0} (result : Result T NotedStop) (P : NotedStop → Type 0) → IsErrAnd result (λ stop. stop ≡ WantsMemory) → IfErr result (λ stop. OfMetadata stop (P stop))
+wanted_alone (Ok x) P wanted = absurd wanted
+wanted_alone (Err stop) P wanted = subst (λ (s : NotedStop). OfMetadata s (P s)) (sym wanted) tt
+
+-- it is no error of metadata
+pub never_failed : {T : Type 0} (stop : NotedStop) → OfMetadata stop ⊥ → IsErrOf {T = T} (Err stop) MetaFailed → ⊥
+never_failed MetaFailed never told = never
+never_failed MetaFull never told = never
+never_failed LogFull never told = cc
+never_failed WantsMemory never told = cc
+
 -- the disk stopped behind so many calls, for a cause that the meter has
 pub stops_into : {C D : Type 0} (calls : D → ℕ) (stop : NotedStop) (old new : Noted C D) (m into : Meter) → old.calls ≡ more_calls m.calls 0 → new.calls ≡ more_calls into.calls 0 →
     (made : ℕ) × (calls (disk_of new.meta) ≡ more_calls made (calls (disk_of old.meta))) × (m.calls + made ≤ into.calls) × HasCause stop (m.calls + made) into → StopsInto calls stop old new into
@@ -78,15 +103,15 @@ counts_still seen may_leave old new entries w control meta calls c =
       calls = calls ∙ c.calls;
     }
 
--- ---- it is made anew, by six calls, or by fewer where the disk failed
+-- ---- it is made anew, by six calls, or by fewer where it was cut short
 
 module _ {C D : Type 0} (seen : D → List ℕ) (fault_count calls : D → ℕ) (old new : Noted C D) (count : new.calls ≡ more_calls 6 old.calls) (size : length (seen (disk_of new.meta)) ≡ length (seen (disk_of old.meta))) where
   pub fold_made : {T : Type 0} (x : T) → calls (disk_of new.meta) ≡ more_calls 6 (calls (disk_of old.meta)) → fault_count (disk_of new.meta) ≡ fault_count (disk_of old.meta) → KeepsCount seen fault_count calls (Ok x) old new
   fold_made x called quiet =
-      record { counted = 6; made = 6; count = count; called = called; within = omega arith; whole = (refl, quiet); failed = λ e. absurd cc; size = ap (λ (n : ℕ). n / 2) size }
+      record { counted = 6; made = 6; count = count; called = called; within = omega arith; whole = (refl, quiet); failed = λ e. absurd cc; unfailed = λ e. absurd cc; size = ap (λ (n : ℕ). n / 2) size }
 
   pub fold_short : {T : Type 0} (stop : NotedStop) → IsCalledUpTo 6 (calls (disk_of old.meta)) (calls (disk_of new.meta)) → (stop ≡ MetaFailed → HasRisen (fault_count (disk_of old.meta)) (fault_count (disk_of new.meta))) →
-      KeepsCount {T = T} seen fault_count calls (Err stop) old new
-  fold_short {T = T} stop called risen =
-      let is : IsErrOf {T = T} (Err stop) MetaFailed → stop ≡ MetaFailed = λ e. cc in
-      record { counted = 6; made = called.0; count = count; called = called.1; within = called.2; whole = tt; failed = λ e. risen (is e); size = ap (λ (n : ℕ). n / 2) size }
+      (stop ≡ MetaFull → fault_count (disk_of new.meta) ≡ fault_count (disk_of old.meta)) → KeepsCount {T = T} seen fault_count calls (Err stop) old new
+  fold_short {T = T} stop called risen quiet =
+      let is : (told : NotedStop) → IsErrOf {T = T} (Err stop) told → stop ≡ told = λ told e. cc in
+      record { counted = 6; made = called.0; count = count; called = called.1; within = called.2; whole = tt; failed = λ e. risen (is MetaFailed e); unfailed = λ e. quiet (is MetaFull e); size = ap (λ (n : ℕ). n / 2) size }

@@ -4,6 +4,7 @@ use Rattle.fc_base.specs.declared.command.Command.{Command}
 use Rattle.fc_base.specs.declared.decision.Decision.{Decision}
 use Rattle.fc_base.specs.declared.request.Place.TheVariants.{Every}
 use Rattle.fc_base.specs.declared.request.Request.TheVariants.{Command as Asked}
+use Rattle.fc_base.specs.declared.size.GrainSize.{GrainSize}
 use Rattle.fc_books.specs.Deciding.{settle}
 use Rattle.fc_changed.specs.Row.{Row}
 use Rattle.fc_entry.specs.HistoryState.{HistoryState}
@@ -15,9 +16,9 @@ use Rattle.fc_kept.specs.Actions.{has_effect}
 use Rattle.fc_lane.specs.Lane.{IsSameLane}
 use Rattle.fc_lanes.specs.AllLanes.{EachLane}
 use Rattle.fc_legal.specs.Agenda.{Asks}
-use Rattle.fc_legal.specs.Steps.{Step, after_settling}
+use Rattle.fc_legal.specs.Steps.{Step, after_settling, one_more}
 use Rattle.fc_legal.specs.Whole.{Whole}
-use Rattle.fc_meta.specs.Answers.{more_calls}
+use Rattle.fc_marks.specs.declared.error.NotedStop.{NotedStop}
 use Rattle.fc_meta.specs.States.{room_of}
 use Rattle.fc_metadisk.specs.Disk.{LeavesOnly}
 use Rattle.fc_script.specs.Script.{agenda_of}
@@ -30,13 +31,13 @@ use Rattle.fc_stands.proofs.Frames.{all_go_on}
 use Rattle.fc_stands.proofs.PhaseStands.{stands_at}
 use Rattle.law_noted.specs.Records.{removed_by}
 use Rattle.law_commanded.specs.Law.{AreLanesIn, CommandedLaw, HasCome, left_behind}
-use Rattle.fc_noted.proofs.CommandCosts.{acts, counts_into}
+use Rattle.fc_noted.proofs.CommandCosts.{counts_into, makes_anew}
 use Rattle.fc_noted.proofs.CommandLanes.{have_volumes}
 use Rattle.fc_noted.proofs.CommandLeads.{Behind, leads_on, stands_behind, stops_behind}
 use Rattle.fc_noted.proofs.CommandStops.{anew_leaves, anew_stops, stayed_leaves, stayed_stops}
 use Rattle.fc_noted.proofs.Planned.{IsPlanned, becoming, entry_of, in_acted, in_acted_still, in_settled, in_stayed, in_unsettled, planned, same_lanes, stands_left}
 use Rattle.fc_noted.proofs.Standing.{has_come}
-use Rattle.fc_noted.specs.Making.{AnewOr, CountsInto, HasActed, HasStayed, IsHeldAt, IsImageAfter, LeavesAnew, MayHaveActed}
+use Rattle.fc_noted.specs.Making.{AnewOr, CountsInto, HasActed, HasStayed, IsHeldAt, IsImageAfter, LeavesAnew, MayHaveActed, TriesAnew}
 use Rattle.fc_noted.specs.Noted.{IsNotedAt}
 use Rattle.fc_noted.specs.Stopping.{HasStopped, HoldStill, LeavesRecoverable}
 use Rattle.fc_noted.specs.declared.noted.Noted.{Noted}
@@ -155,11 +156,15 @@ module _ {C D : Type 0} (seen : D → List ℕ) (may_leave : D → List ℕ → 
             (stands_left law old.store.control.grain history.entries w least command old.store.lanes at.point come few_told decisions mid.store settling decision plan sames new.store done)
             (same_lanes law old.store.control.grain history.entries w least command old.store.lanes at.point come few_told decisions mid.store settling decision plan sames new.store done)
 
-        -- the disk of metadata failed while it was made anew
-        pub failed_into : ((has_effect settling || has_effect decision) || is_some (removed_by decision.events)) ≡ true → new.calls ≡ more_calls 6 mid.calls → CountsInto seen old new history w
-        failed_into e called =
-            counts_into seen may_leave old new history w least at command (asks w at.told.0) (acts old.store.control.grain w command decisions mid.store settling decision plan (settles decisions w few_then stood).0 e)
-            (called ∙ ap (λ (x : Noted C D). more_calls 6 x.calls) others)
+        -- metadata was being made anew, and that was cut short
+        pub tried_into : (calls : D → ℕ) (stop : NotedStop) → ((has_effect settling || has_effect decision) || is_some (removed_by decision.events)) ≡ true → TriesAnew seen may_leave calls decision stop mid new →
+            CountsInto seen calls stop old new history w
+        tried_into calls stop e tries =
+            let g : GrainSize = old.store.control.grain in
+            let x : Noted C D = record old { store = mid.store } in
+            let t : TriesAnew seen may_leave calls decision stop x new = subst (λ (z : Noted C D). TriesAnew seen may_leave calls decision stop z new) others tries in
+            counts_into seen may_leave calls stop old new history w least at command (entry_of w command settling decision) (one_more (left_behind g w command plan.loop)) t.image (asks w at.told.0)
+            (makes_anew law g history.entries w least command old.store.lanes at.point come few_told decisions mid.store settling decision plan sames (settles decisions w few_then stood).0 e t.image t.after) t.counted t.short
 
         -- ---- at each moment
 

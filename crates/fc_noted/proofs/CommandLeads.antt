@@ -40,12 +40,11 @@ use Rattle.law_crash.proofs.Whole.{crash_law_holds}
 use Rattle.law_crash.specs.Points.{Point}
 use Rattle.law_noted.specs.Records.{removed_by}
 use Rattle.law_noted.specs.Runs.{HasRun}
-use Rattle.law_commanded.proofs.Anew.{anew_is}
 use Rattle.law_commanded.proofs.Leaving.{from_run}
 use Rattle.law_commanded.specs.Law.{CommandedLaw, HasCome, decision_on, least_behind, left_behind}
 use Rattle.fc_noted.proofs.Commanding.{BecomesAnew, same_disks, stands_for}
 use Rattle.fc_noted.proofs.CallsMade.{calls_more}
-use Rattle.fc_noted.proofs.CommandCosts.{acts, acts_not}
+use Rattle.fc_noted.proofs.CommandCosts.{acts_not, makes_anew}
 use Rattle.fc_noted.proofs.Counting.{counted_as}
 use Rattle.fc_noted.proofs.Planned.{IsPlanned, becoming, entry_of, have_left, same_lanes, stands_left}
 use Rattle.fc_noted.proofs.Safe.{as_it_was}
@@ -112,8 +111,9 @@ module _ {C D : Type 0} (seen : D → List ℕ) (may_leave : D → List ℕ → 
   abbrev mid : Noted C D
   mid = record old { store = s }
 
-  made_anew : CommandActs old.store.control.grain w command (Fold ∷ []) → room_of seen new.meta ≡ room_of seen old.meta → AnewOr seen may_leave true decision mid new → Behind
-  made_anew acts room x =
+  made_anew : settling ≡ settle w.books → ((has_effect settling || has_effect decision) || is_some (removed_by decision.events)) ≡ true → room_of seen new.meta ≡ room_of seen old.meta → AnewOr seen may_leave true decision mid new → Behind
+  made_anew settles e room x =
+      let half : ℕ = room_of seen old.meta in
       let b : BecomesAnew g w least command plan.loop x.image = becoming law g history.entries w least command old.store.lanes p come few decisions s settling decision plan sames x.image x.after in
       let q = law.anew g history.entries w least command plan.loop entry old.store.lanes new.store.lanes p (kept_in x.image) come few plan.commanded b.anew
       (have_left law g history.entries w least command old.store.lanes p come few decisions s settling decision plan sames new.store done) (same_disks old.store.lanes new.store.lanes lanes_same) in
@@ -128,11 +128,11 @@ module _ {C D : Type 0} (seen : D → List ℕ) (may_leave : D → List ℕ → 
         kept = sym q.1;
         rows = ap (λ (k : Kept). k.rows) (q.1 ∙ b.anew.kept_is) ∙ ap (λ (ms : List Mark). marked ms left.rows) (sym x.unmarked);
         is_named = x.named ∙ ap (λ (k : Kept). k.next_volume) b.anew.kept_is;
-        meter = with_fold x.image at.counts.meter;
-        metered = subst (λ (n : ℕ). Metered g n (history.entries ++ entry ∷ []) (one_more left) (with_fold x.image at.counts.meter)) (sym room)
-            (anew history.entries w at.counts.meter entry (one_more left) command x.image at.counts.metered plan.commanded.step refl refl acts
-            (p.kept.lost, anew_is g history.entries w least command plan.loop entry old.store.lanes p come few plan.commanded no_lane (kept_in x.image) b.anew));
-        measures = record { image = x.found_is; used = x.used };
+        meter = with_fold half x.image at.counts.meter;
+        metered = subst (λ (n : ℕ). Metered g n (history.entries ++ entry ∷ []) (one_more left) (with_fold half x.image at.counts.meter)) (sym room)
+            (anew history.entries w at.counts.meter entry (one_more left) command x.image at.counts.metered
+            (makes_anew law g history.entries w least command old.store.lanes p come few decisions s settling decision plan sames settles e x.image x.after));
+        measures = x.metered at.counts.meter at.counts.is;
         counted = calls_more 6 at.counts.meter.calls old.calls new.calls at.counts.calls x.calls;
       }
 
@@ -164,7 +164,7 @@ module _ {C D : Type 0} (seen : D → List ℕ) (may_leave : D → List ℕ → 
       (subst (λ (d : Decision). actions_of_command d decision ≡ []) settles (ap (λ (b : Bool). if b then Fold ∷ [] else []) e))
 
   by_action : settling ≡ settle w.books → room_of seen new.meta ≡ room_of seen old.meta → (b : Bool) → ((has_effect settling || has_effect decision) || is_some (removed_by decision.events)) ≡ b → AnewOr seen may_leave b decision mid new → Behind
-  by_action settles room true e x = made_anew (acts g w command decisions s settling decision plan settles e) room x
+  by_action settles room true e x = made_anew settles e room x
   by_action settles room false e x =
       let none : (has_effect settling || has_effect decision) ≡ false = neither (has_effect settling) (has_effect decision) (is_some (removed_by decision.events)) e in
       stayed (acts_not g w command decisions s settling decision plan settles none) (no_action settles none) x

@@ -16,20 +16,20 @@ use Rattle.fc_legal.specs.Agenda.{Asks}
 use Rattle.fc_legal.specs.Steps.{Step}
 use Rattle.fc_legal.specs.Whole.{Whole}
 use Rattle.fc_marks.specs.declared.error.NotedStop.{NotedStop}
-use Rattle.fc_marks.specs.declared.error.NotedStop.TheVariants.{LogFull, MetaFailed, NoMemory as WantsMemory}
+use Rattle.fc_marks.specs.declared.error.NotedStop.TheVariants.{LogFull, NoMemory as WantsMemory}
 use Rattle.fc_metadisk.specs.Disk.{LeavesOnly}
 use Rattle.fc_script.specs.Asking.{Fits, IsAnswer, IsLeft}
 use Rattle.fc_script.specs.Script.{agenda_of}
 use Rattle.fc_script.specs.declared.script.Script.{Script}
 use Rattle.fc_stands.specs.Store.{StandsFor, StoreView}
 use Rattle.fc_noted.proofs.Begun.{at_rest}
-use Rattle.fc_noted.proofs.CallsMade.{counts_still}
+use Rattle.fc_noted.proofs.CallsMade.{counts_still, of_metadata}
 use Rattle.fc_noted.proofs.Counting.{has_counted}
 use Rattle.fc_noted.proofs.Moments.{hold_either, resting_found, still_leaves}
 use Rattle.fc_noted.proofs.Stepping.{same_stop}
-use Rattle.fc_noted.specs.Making.{CountsInto, GoesBehind, IsHeldAt, KeepLanes, LeadsOn, StepMade, always}
+use Rattle.fc_noted.specs.Making.{CountsInto, GoesBehind, IsHeldAt, KeepLanes, LeadsOn, StepMade, WhereverNoted, always}
 use Rattle.fc_noted.specs.Noted.{IsAt, IsAtBy, IsNotedAt, Logs}
-use Rattle.fc_noted.specs.Stopping.{HasStopped, LeavesRecoverable}
+use Rattle.fc_noted.specs.Stopping.{HasStopped, LeavesRecoverable, OfMetadata}
 use Rattle.fc_noted.specs.declared.noted.Noted.{Noted}
 use Rattle.fc_noted.specs.declared.noted.UnderWay.{UnderWay}
 
@@ -67,7 +67,7 @@ module _ {C D : Type 0} (seen : D → List ℕ) (may_leave : D → List ℕ → 
   rest w least at = at_rest seen may_leave old before w least idle at
 
   pub undone_made : (stop : NotedStop) → (stop ≡ LogFull → ⊥) →
-      (stop ≡ MetaFailed → (history : HistoryState) (w : Whole) (least : List Row) → length history.entries < 262144 → IsNotedAt seen may_leave old history w least → CountsInto seen old mid history w) →
+      OfMetadata stop (WhereverNoted seen may_leave old (λ history w least. CountsInto seen disk_calls stop old mid history w)) →
       StepMade seen may_leave moment left_since disk_calls (Err stop) old mid before before
   undone_made stop other into =
       record {
@@ -75,7 +75,8 @@ module _ {C D : Type 0} (seen : D → List ℕ) (may_leave : D → List ℕ → 
         any_moment = λ w least at. any_moment before w least room (rest w least at);
         stopped = λ w least at. (refl, stopped before w least room (rest w least at));
         full = λ e. absurd (other (same_stop stop e));
-        into = λ e w least at. into (same_stop stop e) before w least room (rest w least at);
+        into =
+            of_metadata stop (λ (each : WhereverNoted seen may_leave old (λ history w least. CountsInto seen disk_calls stop old mid history w)) w least at. each before w least room (rest w least at)) into;
       }
 
   -- with whatever script

@@ -19,6 +19,7 @@ use Rattle.fc_legal.specs.Seconds.{Work, filled_by}
 use Rattle.fc_legal.specs.Whole.{Whole}
 use Rattle.fc_marks.specs.Stops.{stop_of_log}
 use Rattle.fc_marks.specs.declared.error.NotedStop.TheVariants.{LogFull, MetaFailed}
+use Rattle.fc_noted.specs.Stopping.{OfMetadata}
 use Rattle.fc_parts.specs.Law.{IsInVolume}
 use Rattle.fc_rules.specs.LaneTold.{LaneOf, LaneTold, place_of}
 use Rattle.fc_script.specs.Asking.{HasNextFill}
@@ -35,10 +36,10 @@ pub full_only : (stop : Stop) (history : HistoryState) → IsStopped stop histor
 full_only Full history full is = full
 full_only NoRoom history full is = absurd cc
 
--- and no disk failed then
-pub not_failed : (stop : Stop) → stop_of_log stop ≡ MetaFailed → ⊥
-not_failed Full is = cc
-not_failed NoRoom is = cc
+-- and it is no error of metadata
+pub not_of_metadata : (stop : Stop) → OfMetadata (stop_of_log stop) ⊥
+not_of_metadata Full = tt
+not_of_metadata NoRoom = tt
 
 pub no_disk_failed : {T : Type 0} (stop : Stop) → IsErrOf {T = T} (Err (stop_of_log stop)) MetaFailed → ⊥
 no_disk_failed Full e = cc

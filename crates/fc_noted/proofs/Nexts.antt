@@ -14,7 +14,7 @@ use Rattle.fc_marks.specs.declared.error.NotedStop.{NotedStop}
 use Rattle.fc_meta.proofs.Moments.{weaker}
 use Rattle.fc_metadisk.specs.Disk.{LeavesOnly}
 use Rattle.fc_noted.proofs.Begun.{at_rest}
-use Rattle.fc_noted.proofs.CallsMade.{counts_still}
+use Rattle.fc_noted.proofs.CallsMade.{counts_still, of_metadata}
 use Rattle.fc_noted.proofs.Counting.{has_counted}
 use Rattle.fc_noted.proofs.Moments.{hold_either, resting_found, still_leaves}
 use Rattle.fc_noted.specs.Making.{CountsInto, StepMade}
@@ -142,8 +142,9 @@ module _ {C D : Type 0} (seen : D → List ℕ) (may_leave : D → List ℕ → 
       stopped_behind : HasStopped may_leave on_script new w least → HasStopped may_leave old new w least
       stopped_behind s = record { volumes = s.volumes; counted = s.counted; leaves = λ c may. let l = s.leaves c may in (l.0, l.1, found_behind new.store.lanes new.named l.0 l.2) }
 
-      into_behind : CountsInto seen on_script new before w → CountsInto seen old new before w
-      into_behind i =
+      into_behind : (stop : NotedStop) → CountsInto seen disk_calls stop on_script new before w → CountsInto seen disk_calls stop old new before w
+      into_behind stop i =
+          let s = i.stops in
           record {
             request = i.request;
             asking = i.asking;
@@ -151,10 +152,11 @@ module _ {C D : Type 0} (seen : D → List ℕ) (may_leave : D → List ℕ → 
             asked = i.asked;
             meter = i.meter;
             metered = i.metered;
+            fits = i.fits;
             paid = i.paid;
             into = i.into;
             goes = i.goes;
-            calls = i.calls;
+            stops = record { counted = s.counted; made = s.made; called = s.called; all = s.all; in_all = s.in_all; cause = s.cause };
           }
 
     made_by : (result : Result Bool NotedStop) (new : Noted C D) (after : HistoryState) → StepMade seen may_leave moment left_since disk_calls result on_script new before after → StepMade seen may_leave moment left_since disk_calls result old new before after
@@ -165,7 +167,7 @@ module _ {C D : Type 0} (seen : D → List ℕ) (may_leave : D → List ℕ → 
               weaker moment left_since old.meta.disk new.meta.disk (LeavesRecoverable on_script new w least) (LeavesRecoverable old new w least) (moment_behind new after w least at) (s.any_moment w least (script_is_at w least at));
           stopped = tt;
           full = s.full;
-          into = λ f w least at. into_behind new after w least at (s.into f w least (script_is_at w least at));
+          into = tt;
         }
     made_by (Err stop) new after s =
         record {
@@ -176,7 +178,9 @@ module _ {C D : Type 0} (seen : D → List ℕ) (may_leave : D → List ℕ → 
               let x = s.stopped w least (script_is_at w least at) in
               (x.0, stopped_behind new after w least at x.1);
           full = s.full;
-          into = λ f w least at. into_behind new after w least at (s.into f w least (script_is_at w least at));
+          into = of_metadata stop
+              (λ (each : (w : Whole) (least : List Row) → IsAt seen may_leave on_script before w least → CountsInto seen disk_calls stop on_script new before w) w least at.
+              into_behind new after w least at stop (each w least (script_is_at w least at))) s.into;
         }
 
     pub made_behind : (result : Result Bool NotedStop) (new : Noted C D) (after : HistoryState) → StepMade seen may_leave moment left_since disk_calls result (record old { script = script }) new before after →

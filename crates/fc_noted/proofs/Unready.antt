@@ -5,7 +5,7 @@ use Rattle.fc_entry.specs.declared.stop.Stop.{Stop}
 use Rattle.fc_marks.specs.Stops.{stop_of_log}
 use Rattle.fc_marks.specs.declared.error.NotedStop.{NotedStop}
 use Rattle.fc_noted.proofs.Begun.{stopped_made}
-use Rattle.fc_noted.proofs.Filling.{full_only, no_disk_failed, not_failed}
+use Rattle.fc_noted.proofs.Filling.{full_only, no_disk_failed, not_of_metadata}
 use Rattle.fc_noted.proofs.MeteringNoted.{no_calls}
 use Rattle.fc_noted.specs.Making.{KeepsCount, StepMade, always}
 use Rattle.fc_noted.specs.Noted.{CanBegin}
@@ -20,7 +20,7 @@ module _ {C D : Type 0} (seen : D → List ℕ) (may_leave : D → List ℕ → 
   unready_made stop is (Ok none) told = absurd told
   unready_made stop is (Err e) told =
       subst (λ (s : NotedStop). StepMade seen may_leave moment left_since disk_calls (Err s) old (record old { store = roomy }) history history) (sym told)
-      (stopped_made seen may_leave moment left_since disk_calls only_now old history begins roomy kept (stop_of_log stop) (full_only stop history is) (not_failed stop))
+      (stopped_made seen may_leave moment left_since disk_calls only_now old history begins roomy kept (stop_of_log stop) (full_only stop history is) (not_of_metadata stop))
 
 -- no disk failed
 module _ {C D : Type 0} (seen : D → List ℕ) (fault_count calls : D → ℕ) (old : Noted C D) (roomy : StoreView) where

@@ -1,10 +1,11 @@
 -- The decision is made ready and done, and metadata is made anew.
 use Rattle.std.proofs.Common.{◌≡◌, Bool, Some, is_some, inl, inr, refl, sym, ap, subst, ◌∙◌}
+use Rattle.fc_marks.specs.declared.error.NotedStop.{NotedStop}
 use Rattle.fc_meta.specs.States.{disk_of}
 use Rattle.law_noted.specs.Records.{removed_by}
 use Rattle.fc_noted.proofs.Acting.{about_image, acted_image, acted_on, always_true, anew_by_image, anew_still, first_true, none_gone, on_error, stayed}
-use Rattle.fc_noted.proofs.CallsMade.{no_error}
-use Rattle.fc_noted.specs.Making.{AnewOr, done, HasActed, HasStayed, IsImageAfter}
+use Rattle.fc_noted.proofs.CallsMade.{any_metadata, no_error}
+use Rattle.fc_noted.specs.Making.{AnewOr, done, HasActed, HasStayed, IsImageAfter, TriesAnew}
 use Rattle.std.proofs.lemmas.Result.{err_from_is_err_and}
 use Rattle.fc_noted.proofs.MeteringNoted.{calls_of_error, no_calls, none_wanting, same_calls}
 use Rattle.fc_noted.proofs.noted.Noted.act.Goals as goal
@@ -73,7 +74,7 @@ returns-in-Some-clause-anew g c =
       after = after;
       named = c.in_ok-make_anew.ensures.named.0;
       unmarked = c.in_ok-make_anew.ensures.named.1;
-      used = c.in_ok-make_anew.ensures.used;
+      metered = c.in_ok-make_anew.ensures.metered;
       calls = c.make_anew.ensures.calls;
     })
 
@@ -136,7 +137,7 @@ returns-in_ok-make_anew-2-clause-anew g c =
       after = after;
       named = c.in_ok-make_anew-2.ensures.named.0;
       unmarked = c.in_ok-make_anew-2.ensures.named.1;
-      used = c.in_ok-make_anew-2.ensures.used;
+      metered = c.in_ok-make_anew-2.ensures.metered;
       calls = c.make_anew-then-has_action.ensures.calls;
     })
 
@@ -156,13 +157,19 @@ pub returns-in-Some-clause-counted : goal.returns-in-Some-clause-counted
 returns-in-Some-clause-counted g c =
     let mid = record c.args.self.now { store = c.reserve_all.new.self } in
     let new = record c.make_anew.new.self { store = c.apply_all.new.self } in
-    same_calls g.M.MetaDisk.seen g.M.MetaDisk.fault_count g.M.MetaDisk.calls done done c.args.self.now mid c.make_anew.new.self new refl refl refl refl (λ P p. p) (λ e. e) c.in_ok-make_anew.ensures.counted
+    same_calls g.M.MetaDisk.seen g.M.MetaDisk.fault_count g.M.MetaDisk.calls done done c.args.self.now mid c.make_anew.new.self new refl refl refl refl (λ P p. p) (λ e. e) (λ e. e) c.in_ok-make_anew.ensures.counted
 
-pub returns-in_err-make_anew-clause-failed : goal.returns-in_err-make_anew-clause-failed
-returns-in_err-make_anew-clause-failed g c = λ e. (
-  always_true c.args.has_action (is_some (removed_by c.args.decision.now.events)) (ap is_some (sym c.removed_by.ensures ∙ c.in-Some.is)),
-  c.make_anew.ensures.calls,
-)
+pub returns-in_err-make_anew-clause-tried : goal.returns-in_err-make_anew-clause-tried
+returns-in_err-make_anew-clause-tried g c =
+    let p = err_from_is_err_and c.from_residual-in_err-make_anew.result c.from_residual-in_err-make_anew.ensures.1 in
+    let stop : NotedStop = c.in_err-make_anew.field-0.0 in
+    let gone : removed_by c.args.decision.now.events ≡ Some c.in-Some.volume = sym c.removed_by.ensures ∙ c.in-Some.is in
+    let after : IsImageAfter c.args.self.now.store c.args.decision.now c.in_ok-image.image =
+    about_image c.args.self.now.store c.reserve_all.new.self c.args.decision.now c.in-Some.volume c.control.result.now c.all_lanes.result.now c.in_ok-image.image c.reserve_all.ensures.reserved
+    gone c.control.ensures c.all_lanes.ensures c.in_ok-image.ensures in
+    let tries : TriesAnew g.M.MetaDisk.seen g.M.MetaDisk.may_leave g.M.MetaDisk.calls c.args.decision.now stop c.args.self.now c.make_anew.new.self =
+    record { image = c.in_ok-image.image; after = after; counted = c.make_anew.ensures.calls; short = c.in_err-make_anew.ensures.short } in
+    rw (p.1, p.2) (any_metadata stop (always_true c.args.has_action (is_some (removed_by c.args.decision.now.events)) (ap is_some gone), tries))
 
 pub returns-in_err-make_anew-2-clause-counted : goal.returns-in_err-make_anew-2-clause-counted
 returns-in_err-make_anew-2-clause-counted g c =
@@ -175,13 +182,18 @@ pub returns-in_ok-make_anew-2-clause-counted : goal.returns-in_ok-make_anew-2-cl
 returns-in_ok-make_anew-2-clause-counted g c =
     let mid = record c.args.self.now { store = c.apply_all-2.new.self } in
     let new = c.make_anew-then-has_action.new.self in
-    same_calls g.M.MetaDisk.seen g.M.MetaDisk.fault_count g.M.MetaDisk.calls done done c.args.self.now mid new new refl refl refl refl (λ P p. p) (λ e. e) c.in_ok-make_anew-2.ensures.counted
+    same_calls g.M.MetaDisk.seen g.M.MetaDisk.fault_count g.M.MetaDisk.calls done done c.args.self.now mid new new refl refl refl refl (λ P p. p) (λ e. e) (λ e. e) c.in_ok-make_anew-2.ensures.counted
 
-pub returns-in_err-make_anew-2-clause-failed : goal.returns-in_err-make_anew-2-clause-failed
-returns-in_err-make_anew-2-clause-failed g c = λ e. (
-  first_true c.args.has_action (is_some (removed_by c.args.decision.now.events)) c.if-has_action.true,
-  c.make_anew-then-has_action.ensures.calls,
-)
+pub returns-in_err-make_anew-2-clause-tried : goal.returns-in_err-make_anew-2-clause-tried
+returns-in_err-make_anew-2-clause-tried g c =
+    let p = err_from_is_err_and c.from_residual-in_err-make_anew-2.result c.from_residual-in_err-make_anew-2.ensures.1 in
+    let stop : NotedStop = c.in_err-make_anew-2.field-0.0 in
+    let after : IsImageAfter c.args.self.now.store c.args.decision.now c.in_ok-image-2.image =
+    acted_image c.args.self.now.store c.reserve_all.new.self c.apply_all-2.new.self c.args.decision.now c.control-then-has_action.result.now c.all_lanes-then-has_action.result.now c.in_ok-image-2.image c.reserve_all.ensures.reserved c.apply_all-2.ensures.done
+    (sym c.removed_by.ensures ∙ none_gone c.removed_by.result c.in_default.not-Some) c.control-then-has_action.ensures c.all_lanes-then-has_action.ensures c.in_ok-image-2.ensures in
+    let tries : TriesAnew g.M.MetaDisk.seen g.M.MetaDisk.may_leave g.M.MetaDisk.calls c.args.decision.now stop c.args.self.now c.make_anew-then-has_action.new.self =
+    record { image = c.in_ok-image-2.image; after = after; counted = c.make_anew-then-has_action.ensures.calls; short = c.in_err-make_anew-2.ensures.short } in
+    rw (p.1, p.2) (any_metadata stop (first_true c.args.has_action (is_some (removed_by c.args.decision.now.events)) c.if-has_action.true, tries))
 
 pub returns-else-has_action-clause-counted : goal.returns-else-has_action-clause-counted
 returns-else-has_action-clause-counted g c = no_calls g.M.MetaDisk.seen g.M.MetaDisk.fault_count g.M.MetaDisk.calls done c.args.self.now (record c.args.self.now { store = c.apply_all-2.new.self }) refl refl (no_error tt)
@@ -202,3 +214,12 @@ pub returns-in_err-image-2-clause-counted : goal.returns-in_err-image-2-clause-c
 returns-in_err-image-2-clause-counted g c =
     let p = err_from_is_err_and c.from_residual-in_err-image-2.result c.from_residual-in_err-image-2.ensures.1 in
     none_wanting g.M.MetaDisk.seen g.M.MetaDisk.fault_count g.M.MetaDisk.calls c.from_residual-in_err-image-2.result p.0 c.args.self.now (record c.args.self.now { store = c.apply_all-2.new.self }) p.1 p.2 refl refl
+
+pub returns-in_err-reserve_all-clause-tried : goal.returns-in_err-reserve_all-clause-tried
+returns-in_err-reserve_all-clause-tried g c = let p = err_from_is_err_and c.from_residual.result c.from_residual.ensures.1 in rw (p.1, p.2) tt
+
+pub returns-in_err-image-clause-tried : goal.returns-in_err-image-clause-tried
+returns-in_err-image-clause-tried g c = let p = err_from_is_err_and c.from_residual-in_err-image.result c.from_residual-in_err-image.ensures.1 in rw (p.1, p.2) tt
+
+pub returns-in_err-image-2-clause-tried : goal.returns-in_err-image-2-clause-tried
+returns-in_err-image-2-clause-tried g c = let p = err_from_is_err_and c.from_residual-in_err-image-2.result c.from_residual-in_err-image-2.ensures.1 in rw (p.1, p.2) tt

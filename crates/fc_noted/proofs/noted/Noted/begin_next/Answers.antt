@@ -82,7 +82,7 @@ returns-in_err-begin-in-Some-clause-counted g c =
 pub returns-in_ok-begin-in-Some-clause-counted : goal.returns-in_ok-begin-in-Some-clause-counted
 returns-in_ok-begin-in-Some-clause-counted g c =
     let mid = record c.args.self.now { script = c.next.new.self } in
-    same_calls g.M.MetaDisk.seen g.M.MetaDisk.fault_count g.M.MetaDisk.calls done (Ok true) c.args.self.now mid c.begin.new.self c.begin.new.self refl refl refl refl (λ P p. p) (λ e. absurd (no_error true e)) c.in_ok-begin-in-Some.ensures.counted
+    same_calls g.M.MetaDisk.seen g.M.MetaDisk.fault_count g.M.MetaDisk.calls done (Ok true) c.args.self.now mid c.begin.new.self c.begin.new.self refl refl refl refl (λ P p. p) (λ e. absurd (no_error true e)) (λ e. absurd (no_error true e)) c.in_ok-begin-in-Some.ensures.counted
 
 pub returns-in-None-clause-counted : goal.returns-in-None-clause-counted
 returns-in-None-clause-counted g c = no_calls g.M.MetaDisk.seen g.M.MetaDisk.fault_count g.M.MetaDisk.calls (Ok false) c.args.self.now (record c.args.self.now { script = c.next.new.self }) refl refl (no_error false)

@@ -1,15 +1,16 @@
 -- A command is settled, decided and done.
 use Rattle.std.proofs.Common.{ℕ, ◌<◌, ◌||◌, Bool, is_some, sym, subst, ◌∙◌, ◌≡◌, Err, Ok, true, ap, refl}
+use Rattle.fc_marks.specs.declared.error.NotedStop.{NotedStop}
 use Rattle.fc_meta.specs.States.{IsResting}
 use Rattle.fc_stands.proofs.CommandPhases.{decision_can}
 use Rattle.fc_stands.proofs.CommandRuns.{HasRoom, can_settle}
 use Rattle.fc_stands.proofs.Frames.{all_go_on}
 use Rattle.law_noted.specs.Records.{removed_by}
-use Rattle.fc_noted.proofs.CommandEntry.{decides_then, done_leads, done_leaves, done_stops, good_anew, lanes_undone, settled_leaves, settled_stops, undone_leaves, undone_stops, unsettled_leaves, unsettled_stops, failed_into}
-use Rattle.fc_noted.specs.Making.{AnewOr, done}
+use Rattle.fc_noted.proofs.CommandEntry.{decides_then, done_leads, done_leaves, done_stops, good_anew, lanes_undone, settled_leaves, settled_stops, undone_leaves, undone_stops, unsettled_leaves, unsettled_stops, tried_into}
+use Rattle.fc_noted.specs.Making.{AnewOr, TriesAnew, done}
 use Rattle.std.proofs.lemmas.Result.{err_from_is_err_and}
 use Rattle.fc_noted.proofs.MeteringNoted.{calls_of_error, no_calls, none_wanting, same_calls}
-use Rattle.fc_noted.proofs.CallsMade.{failed_as, no_error}
+use Rattle.fc_noted.proofs.CallsMade.{never_failed, no_error, of_metadata}
 use Rattle.fc_noted.proofs.noted.Noted.carry_out.Goals as goal
 
 -- ---- what each call needs
@@ -126,7 +127,7 @@ pub returns-in_err-settling-clause-counted : goal.returns-in_err-settling-clause
 returns-in_err-settling-clause-counted g c =
     let p = err_from_is_err_and c.from_residual.result c.from_residual.ensures.1 in
     rw (p.1, p.2) (no_calls g.M.MetaDisk.seen g.M.MetaDisk.fault_count g.M.MetaDisk.calls (Err c.in_err-settling.field-0.0) c.args.self.now c.settle.new.self (ap (λ n. n.calls) c.settle.ensures.others) (ap (λ n. n.meta) c.settle.ensures.others)
-    (λ e. c.in_err-settling.ensures.not_failed (failed_as c.in_err-settling.field-0.0 e)))
+    (never_failed c.in_err-settling.field-0.0 c.in_err-settling.ensures.not_disk))
 
 pub returns-in_err-decision-clause-counted : goal.returns-in_err-decision-clause-counted
 returns-in_err-decision-clause-counted g c =
@@ -147,13 +148,27 @@ returns-in_err-act-clause-counted g c =
 pub returns-clause-counted : goal.returns-clause-counted
 returns-clause-counted g c =
     same_calls g.M.MetaDisk.seen g.M.MetaDisk.fault_count g.M.MetaDisk.calls done (Ok (c.in_ok-decision.decision, c.in_ok-joined.joined)) c.args.self.now c.settle.new.self c.act.new.self c.act.new.self (ap (λ n. n.calls) c.settle.ensures.others) (ap (λ n. n.meta) c.settle.ensures.others) refl refl
-    (λ P p. p) (λ e. absurd (no_error (c.in_ok-decision.decision, c.in_ok-joined.joined) e)) c.in_ok-act.ensures.counted
+    (λ P p. p) (λ e. absurd (no_error (c.in_ok-decision.decision, c.in_ok-joined.joined) e)) (λ e. absurd (no_error (c.in_ok-decision.decision, c.in_ok-joined.joined) e)) c.in_ok-act.ensures.counted
 
 pub returns-in_err-act-clause-into : goal.returns-in_err-act-clause-into
 returns-in_err-act-clause-into g c =
     let p = err_from_is_err_and c.from_residual-in_err-act.result c.from_residual-in_err-act.ensures.1 in
-    rw (p.1, p.2) (λ e history w least room at.
-    let f = c.in_err-act.ensures.failed (failed_as c.in_err-act.field-0.0 e) in
-    failed_into g.M.MetaDisk.seen g.M.MetaDisk.may_leave c.commanded_law.ensures c.args.self.now c.settle.new.self c.args.command.now c.requires.next c.settle.ensures.grain c.settle.ensures.lanes c.settle.ensures.others
+    let stop : NotedStop = c.in_err-act.field-0.0 in
+    let Tried : Type 0 = TriesAnew g.M.MetaDisk.seen g.M.MetaDisk.may_leave g.M.MetaDisk.calls c.in_ok-decision.decision stop c.settle.new.self c.act.new.self in
+    rw (p.1, p.2) (of_metadata stop
+    (λ (tried : ((c.have_effect.result || is_some (removed_by c.in_ok-decision.decision.events)) ≡ true) × Tried) history w least room at.
+    tried_into g.M.MetaDisk.seen g.M.MetaDisk.may_leave c.commanded_law.ensures c.args.self.now c.settle.new.self c.args.command.now c.requires.next c.settle.ensures.grain c.settle.ensures.lanes c.settle.ensures.others
     history w least room at c.in_ok-settling.settling c.in_ok-settling.ensures.settled c.requires.decided c.in_ok-decision.decision c.in_ok-decision.ensures c.act.new.self c.act.ensures.others
-    (subst (λ (b : Bool). (b || is_some (removed_by c.in_ok-decision.decision.events)) ≡ true) c.have_effect.ensures f.0) f.1)
+    g.M.MetaDisk.calls stop (subst (λ (b : Bool). (b || is_some (removed_by c.in_ok-decision.decision.events)) ≡ true) c.have_effect.ensures tried.0) tried.1)
+    c.in_err-act.ensures.tried)
+
+pub returns-in_err-settling-clause-into : goal.returns-in_err-settling-clause-into
+returns-in_err-settling-clause-into g c =
+    let p = err_from_is_err_and c.from_residual.result c.from_residual.ensures.1 in
+    rw (p.1, p.2) (of_metadata c.in_err-settling.field-0.0 (λ (no : ⊥). absurd no) c.in_err-settling.ensures.not_disk)
+
+pub returns-in_err-decision-clause-into : goal.returns-in_err-decision-clause-into
+returns-in_err-decision-clause-into g c = let p = err_from_is_err_and c.from_residual-in_err-decision.result c.from_residual-in_err-decision.ensures.1 in rw (p.1, p.2) tt
+
+pub returns-in_err-joined-clause-into : goal.returns-in_err-joined-clause-into
+returns-in_err-joined-clause-into g c = let p = err_from_is_err_and c.from_residual-in_err-joined.result c.from_residual-in_err-joined.ensures.1 in rw (p.1, p.2) tt

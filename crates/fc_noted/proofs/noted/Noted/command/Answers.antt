@@ -5,7 +5,7 @@ use Rattle.fc_marks.specs.declared.error.NotedStop.{NotedStop}
 use Rattle.fc_noted.proofs.CommandLogs.{command_numbered, full_made, keep_lanes, undone_made}
 use Rattle.fc_noted.specs.Making.{KeepLanes}
 use Rattle.fc_noted.proofs.MeteringNoted.{calls_of_error, memory_alone, no_calls, same_calls}
-use Rattle.fc_noted.proofs.CallsMade.{log_full, on_ok}
+use Rattle.fc_noted.proofs.CallsMade.{log_full, memory_alone_full, on_ok}
 use Rattle.fc_marks.specs.declared.error.NotedStop.TheVariants.{LogFull}
 use Rattle.fc_noted.proofs.noted.Noted.command.Goals as goal
 
@@ -18,7 +18,7 @@ returns-in_err-entry-clause-made g c =
     let p = err_from_is_err_and c.from_residual.result c.from_residual.ensures.1 in
     rw (p.1, p.2) (
     undone_made g.M.MetaDisk.seen g.M.MetaDisk.may_leave g.M.MetaDisk.moment g.M.MetaDisk.left_since g.M.MetaDisk.calls c.args.self.now c.command_entry.new.self c.args.history.now c.requires.begins.at.idle c.if-is_full.ensures.room
-    c.command_entry.ensures.any_moment c.command_entry.ensures.stopped c.in_err-entry.field-0.0 (λ e. c.in_err-entry.ensures.not_log (ap (λ (z : NotedStop). Err z) e)) (λ e. c.in_err-entry.ensures.into (ap (λ (z : NotedStop). Err z) e))
+    c.command_entry.ensures.any_moment c.command_entry.ensures.stopped c.in_err-entry.field-0.0 (λ e. c.in_err-entry.ensures.not_log (ap (λ (z : NotedStop). Err z) e)) c.in_err-entry.ensures.into
     )
 
 pub log_entry-requires-clause-stands : goal.log_entry-requires-clause-stands
@@ -55,4 +55,5 @@ pub returns-clause-counted : goal.returns-clause-counted
 returns-clause-counted g c =
     let new = c.log_entry.new.self in
     same_calls g.M.MetaDisk.seen g.M.MetaDisk.fault_count g.M.MetaDisk.calls (Ok c.in_ok-entry.entry) c.log_entry.result c.args.self.now c.args.self.now c.command_entry.new.self new refl refl (ap (λ n. n.calls) c.log_entry.ensures.others) (ap (λ n. n.meta) c.log_entry.ensures.others)
-    (λ P p. on_ok c.log_entry.result P p) (λ e. absurd (memory_alone c.log_entry.result c.log_entry.ensures.stop e)) c.in_ok-entry.ensures.counted
+    (λ P p. on_ok c.log_entry.result P p) (λ e. absurd (memory_alone c.log_entry.result c.log_entry.ensures.stop e))
+    (λ e. absurd (memory_alone_full c.log_entry.result c.log_entry.ensures.stop e)) c.in_ok-entry.ensures.counted

@@ -1,12 +1,13 @@
 -- Metadata is made anew by six calls, which are counted before they are made.
-use Rattle.std.proofs.Common.{Err, ℕ, ◌+◌, inl, inr, ap, ◌∙◌, arith}
+use Rattle.std.proofs.Common.{Err, ℕ, inl, inr, ap, ◌∙◌, arith}
 use Rattle.std.proofs.lemmas.Result.{err_from_is_err_and}
-use Rattle.fc_marks.proofs.Counting.{few_made, same_size, some_made}
+use Rattle.fc_marks.proofs.Counting.{few_made, some_made}
+use Rattle.fc_marks.proofs.Folding.{folded, fold_short as cut_short}
 use Rattle.fc_marks.specs.Stops.{stop_of_meta}
-use Rattle.fc_meta.specs.States.{Head, disk_of, generation_of}
+use Rattle.fc_meta.specs.States.{disk_of}
 use Rattle.fc_meta.specs.declared.error.MetaError.{MetaError}
 use Rattle.fc_noted.proofs.Calls.{at_once}
-use Rattle.fc_noted.proofs.CallsMade.{fold_made, fold_short}
+use Rattle.fc_noted.proofs.CallsMade.{fold_made, fold_short, full_unfailed}
 use Rattle.fc_noted.proofs.Opening.{was_failed}
 use Rattle.fc_noted.proofs.noted.Noted.make_anew.Goals as goal
 
@@ -16,8 +17,24 @@ returns-in_err-fold-clause-calls g c = c.saturating_add-self.ensures ∙ at_once
 pub returns-clause-calls : goal.returns-clause-calls
 returns-clause-calls g c = c.saturating_add-self.ensures ∙ at_once 6 c.args.self.now.calls (omega arith)
 
-pub returns-clause-used : goal.returns-clause-used
-returns-clause-used g c = ap (λ (h : Head). h.used) c.in_ok-fold.ensures.head ∙ same_size (generation_of c.args.self.now.meta + 1) c.args.image.now
+-- ---- by the meter
+
+pub returns-clause-metered : goal.returns-clause-metered
+returns-clause-metered g c =
+    folded g.M.MetaDisk.seen c.args.self.now.meta c.fold.new.self c.args.image.now c.in_ok-fold.ensures.found c.in_ok-fold.ensures.head c.in_ok-fold.ensures.room
+
+pub returns-in_err-fold-clause-short : goal.returns-in_err-fold-clause-short
+returns-in_err-fold-clause-short g c =
+    let p = err_from_is_err_and c.from_residual.result c.from_residual.ensures.1 in
+    rw (p.1, p.2) (
+    cut_short g.M.MetaDisk.seen c.args.self.now.meta c.fold.new.self c.args.image.now g.M.MetaDisk.calls c.in_err-fold.field-0.0 c.in_err-fold.ensures.treats.asks.stopped c.in_err-fold.ensures.short c.in_err-fold.ensures.full
+    (elim c.in_err-fold.ensures.stays [
+      | inl told ↦ inl told
+      | inr stays ↦ inr stays.5
+    ])
+    )
+
+-- ---- by the count
 
 pub returns-in_err-fold-clause-counted : goal.returns-in_err-fold-clause-counted
 returns-in_err-fold-clause-counted g c =
@@ -32,6 +49,10 @@ returns-in_err-fold-clause-counted g c =
       | inr stays ↦ few_made 2 6 before now (omega arith) stays.5
     ])
     (λ e. c.in_err-fold.ensures.treats.asks.failed (ap (λ (z : MetaError). Err z) (was_failed c.in_err-fold.field-0.0 e)))
+    (λ e. elim c.in_err-fold.ensures.stays [
+      | inl told ↦ absurd (full_unfailed c.in_err-fold.field-0.0 e told)
+      | inr stays ↦ stays.4
+    ])
     )
 
 pub returns-clause-counted : goal.returns-clause-counted

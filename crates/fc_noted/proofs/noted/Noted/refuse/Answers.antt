@@ -1,7 +1,7 @@
 -- A refusal is right, and its entry is logged.
-use Rattle.std.proofs.Common.{◌≡◌, ap, refl, subst, sym, Err}
+use Rattle.std.proofs.Common.{ap, refl, subst, sym, Err}
 use Rattle.fc_entry.specs.declared.entry.Entry.{Entry}
-use Rattle.fc_marks.specs.declared.error.NotedStop.TheVariants.{LogFull, MetaFailed}
+use Rattle.fc_marks.specs.declared.error.NotedStop.TheVariants.{LogFull}
 use Rattle.fc_noted.proofs.Begun.{stopped_made}
 use Rattle.fc_noted.proofs.CallsMade.{log_full}
 use Rattle.fc_noted.proofs.KeepingLanes.{lanes_stay, lanes_still}
@@ -14,7 +14,7 @@ use Rattle.fc_noted.proofs.noted.Noted.refuse.Goals as goal
 pub returns-then-is_full-clause-made : goal.returns-then-is_full-clause-made
 returns-then-is_full-clause-made g c =
     stopped_made g.M.MetaDisk.seen g.M.MetaDisk.may_leave g.M.MetaDisk.moment g.M.MetaDisk.left_since g.M.MetaDisk.calls g.met.M.MetaDisk.only_now c.args.self.now c.args.history.now c.requires.begins c.args.self.now.store
-    (as_roomy c.args.self.now.store) LogFull (λ e. c.if-is_full.ensures.full) (λ e. let q : LogFull ≡ MetaFailed = e in cc)
+    (as_roomy c.args.self.now.store) LogFull (λ e. c.if-is_full.ensures.full) tt
 
 pub log_entry-requires-clause-stands : goal.log_entry-requires-clause-stands
 log_entry-requires-clause-stands g c = (c.requires.begins.w, c.requires.begins.at.told.0)
