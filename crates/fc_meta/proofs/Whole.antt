@@ -11,12 +11,13 @@ use Rattle.fc_meta.specs.declared.series.Call.TheVariants.{Note, Sync, ClearOthe
 use Rattle.fc_meta.specs.declared.error.MetaError.{MetaError}
 use Rattle.fc_meta.specs.declared.error.MetaError.TheVariants.{Failed}
 use Rattle.fc_meta.specs.declared.meta.Meta.{Meta}
-use Rattle.fc_meta.specs.Answers.{found_with, more_calls}
-use Rattle.fc_meta.specs.States.{Head, head_of, head_with, head_turned, generation_of, used_of, found, awaited, filled, IsResting}
+use Rattle.fc_meta.specs.Answers.{IsStopped, PassesHalf, found_with, more_calls}
+use Rattle.fc_meta.specs.States.{Head, head_of, head_with, head_turned, generation_of, room_of, used_of, found, awaited, filled, IsResting}
 use Rattle.fc_meta.specs.DiskCalls.{note_calls, sync_calls, clear_calls, fill_calls, turn_calls, put_calls, fold_calls}
 use Rattle.fc_meta.specs.Promise.{TreatsDisk, Promise}
 use Rattle.fc_meta.proofs.Places.{sync_same, fill_same, turn_same, on_ok_then}
 use Rattle.fc_meta.proofs.Promised.{treats_first, treats_both}
+use Rattle.fc_meta.proofs.Sides.{same_size}
 
 module _ {D : Type 0} (seen : D → List ℕ) (moment : D → ℕ) (left_since : D → ℕ → List ℕ → Type 0) (fault_count calls : D → ℕ) (leads : D → List Made → D → Type 0)
     (may_leave : D → List ℕ → Type 0) (leads_on : (a b c : D) (first rest : List Made) → leads a first b → leads b rest c → leads a (first ++ rest) c) where
@@ -56,6 +57,12 @@ module _ {D : Type 0} (seen : D → List ℕ) (moment : D → ℕ) (left_since :
     fold_first error cleared = treats_first seen moment left_since fault_count calls leads (clear_calls seen old) rest old mid (Image image) error cleared.treats
 
     module _ (cleared : Keeps ClearOther old mid (Ok tt)) (last : Meta D) where
+      -- where the image passes the half, it does behind the gate that was closed
+      passes_then : PassesHalf (generation_of old) image (room_of seen old) → PassesHalf (generation_of mid) image (room_of seen mid)
+      passes_then passes =
+          subst (λ (g : ℕ). PassesHalf g image (room_of seen mid)) (sym (ap (λ (h : Head). h.generation) cleared.head))
+          (subst (λ (n : ℕ). PassesHalf (generation_of old) image n) (sym (same_size (seen old.disk) (seen mid.disk) cleared.treats.size)) passes)
+
       behind : (new : Meta D) (result : Result ⊤ MetaError) → Treats (Image image) rest mid new result → Treats (Image image) (fold_calls seen old image) old new result
       behind new result more = treats_both seen moment left_since fault_count calls leads (clear_calls seen old) rest old mid (Image image) leads_on tt new result cleared.made.1 cleared.treats more
 
@@ -86,10 +93,18 @@ module _ {D : Type 0} (seen : D → List ℕ) (moment : D → ℕ) (left_since :
           )))
           refused.refused
 
+      -- no image that passes the half is written
+      pub fold_unwritten : (error : MetaError) → Keeps (FillOther image) mid last (Err error) → IsErrOf {T = ⊤} (Err error) Failed → PassesHalf (generation_of old) image (room_of seen old) → ⊥
+      fold_unwritten error refused failed passes = refused.not_failed failed (passes_then passes)
+
       pub fold_begun : (error : MetaError) → Keeps (FillOther image) mid last (Err error) → IsErrOf {T = ⊤} (Err error) Failed ⊎ leads old.disk (all_made (clear_calls seen old)) last.disk
       fold_begun error refused =
           ⊎_elim (λ failed. inl failed)
           (λ same. inr (subst (λ (m : Meta D). leads old.disk (all_made (clear_calls seen old)) m.disk) (sym same) cleared.treats.asks.done)) refused.refused
+
+      module _ (done : Keeps (FillOther image) mid last (Ok tt)) where
+        pub fold_has_room : PassesHalf (generation_of old) image (room_of seen old) → ⊥
+        fold_has_room passes = done.room (passes_then passes)
 
       module _ (done : Keeps (FillOther image) mid last (Ok tt)) (new : Meta D) (result : Result ⊤ MetaError) (turned : Keeps Turn last new result) where
         pub fold_all : Treats (Image image) (fold_calls seen old image) old new result
