@@ -1,19 +1,16 @@
 -- Calls of the disk of metadata by one part of a line, and by another behind it.
 use Rattle.std.proofs.Common.{◌≡◌, ℕ, ◌+◌, List, sym, ap, subst, ◌∙◌, arith}
-use Rattle.std.specs.Prelude.{Err, IsErrOf, Ok, OnOk, Result}
+use Rattle.std.specs.Prelude.{Err, Ok, OnOk, Result}
 use Rattle.fc_base.specs.Count.{HasRisen}
 use Rattle.fc_marks.specs.Meter.{Meter}
-use Rattle.fc_marks.specs.declared.error.NotedStop.TheVariants.{MetaFailed, MetaFull}
 use Rattle.fc_marks.specs.declared.error.NotedStop.{NotedStop}
 use Rattle.fc_meta.proofs.Asked.{calls_added}
 use Rattle.fc_meta.specs.Answers.{more_calls}
 use Rattle.fc_meta.specs.States.{disk_of}
+use Rattle.fc_noted.proofs.CallsMade.{failed_as}
 use Rattle.fc_noted.specs.Making.{KeepsCount}
 use Rattle.fc_noted.specs.Stopping.{StopsInto}
 use Rattle.fc_noted.specs.declared.noted.Noted.{Noted}
-
-same_stop : {T U : Type 0} (stop told : NotedStop) → IsErrOf {T = U} (Err stop) told → IsErrOf {T = T} (Err stop) told
-same_stop stop told e = cc
 
 module _ {C D : Type 0} (seen : D → List ℕ) (fault_count calls : D → ℕ) where
   abbrev Whole : ℕ → ℕ → Noted C D → Noted C D → Type 0
@@ -60,7 +57,7 @@ module _ {C D : Type 0} (seen : D → List ℕ) (fault_count calls : D → ℕ) 
 
   -- and of one that wasn't
   pub calls_before : {T U : Type 0} (stop : NotedStop) (old new : Noted C D) → KeepsCount {T = T} seen fault_count calls (Err stop) old new → KeepsCount {T = U} seen fault_count calls (Err stop) old new
-  calls_before {T} {U} stop old new a =
+  calls_before stop old new a =
       record {
         counted = a.counted;
         made = a.made;
@@ -68,8 +65,8 @@ module _ {C D : Type 0} (seen : D → List ℕ) (fault_count calls : D → ℕ) 
         called = a.called;
         within = a.within;
         whole = tt;
-        failed = λ told. a.failed (same_stop {T = T} {U = U} stop MetaFailed told);
-        unfailed = λ told. a.unfailed (same_stop {T = T} {U = U} stop MetaFull told);
+        failed = λ told. a.failed (failed_as stop told);
+        unfailed = λ told. a.unfailed (failed_as stop told);
         size = a.size;
       }
 
