@@ -96,9 +96,9 @@ module _ {D : Type 0} (seen : D → List ℕ) (old new : Meta D) (image : MetaIm
         (IsErrOf {T = ⊤} (Err e) Failed → PassesHalf (generation_of old) image (room_of seen old) → IsStopped 2 (calls (disk_of old)) (calls (disk_of new))) →
         (IsErrOf {T = ⊤} (Err e) Full → PassesHalf (generation_of old) image (room_of seen old)) → IsErrOf {T = ⊤} (Err e) Failed ⊎ (calls (disk_of new) ≡ more_calls 2 (calls (disk_of old))) →
         IsCutShort seen calls (stop_of_meta e) old new (with_fold (room_of seen old) image)
-    fold_short Failed stopped short full two = failed_short (stopped refl) (short refl) (passes_half (room_of seen old) (generation_of old) image) refl
-    fold_short Full stopped short full (inl told) = absurd cc
+    fold_short Failed stopped short full two m is = failed_short (stopped refl) (short refl) (passes_half (room_of seen old) (generation_of old) image) refl m is
+    fold_short Full stopped short full (inl told) m is = absurd cc
     fold_short Full stopped short full (inr two) m is =
         (2, two, omega arith, full_is m is true (it_passes (room_of seen old) (generation_of old) image (full refl)))
-    fold_short NoMemory stopped short full (inl told) = absurd cc
+    fold_short NoMemory stopped short full (inl told) m is = absurd cc
     fold_short NoMemory stopped short full (inr two) m is = (2, two, omega arith, tt)

@@ -1,17 +1,16 @@
--- What a crash leaves while a record is put into metadata, which errors come, and when there is room.
-use Rattle.std.proofs.Common.{◌≡◌, inl, inr, ⊎_elim, ℕ, ◌+◌, ◌<◌, ◌≤◌, Bool, true, nat_le, List, length, refl, sym, ap, subst, ◌∙◌, arith}
+-- What a crash leaves while a record is put into metadata, and which errors come.
+use Rattle.std.proofs.Common.{◌≡◌, ◌⊎◌, inl, inr, ⊎_elim, ℕ, ◌<◌, ◌≤◌, Bool, true, nat_le, List, refl, sym, ap, subst, ◌∙◌, arith}
 use Rattle.std.proofs.lemmas.Bool.{leb-true}
 use Rattle.std.specs.Prelude.{Err, IsErrOf, ⊤}
 use Rattle.fc_base.specs.Count.{HasRisen}
 use Rattle.fc_metadisk.specs.Disk.{LeavesOnly}
-use Rattle.fc_format.specs.Bytes.{half_bytes}
-use Rattle.fc_format.specs.Halves.{Found, Image, recovered, half_size}
+use Rattle.fc_format.specs.Halves.{Found, Image, recovered}
 use Rattle.fc_image.specs.declared.image.MetaImage.{MetaImage}
 use Rattle.fc_meta.specs.declared.error.MetaError.{MetaError}
 use Rattle.fc_meta.specs.declared.error.MetaError.TheVariants.{Failed, NoMemory, Full}
 use Rattle.fc_meta.specs.declared.meta.Meta.{Meta}
-use Rattle.fc_meta.specs.Answers.{LeavesEither, PassesHalf}
-use Rattle.fc_meta.specs.States.{Head, disk_of, found, generation_of, head_of, head_turned, room_of, used_of, IsResting}
+use Rattle.fc_meta.specs.Answers.{LeavesEither}
+use Rattle.fc_meta.specs.States.{disk_of, found, IsResting}
 use Rattle.fc_meta.proofs.Moments.{started, joined, weaker}
 use Rattle.fc_marks.specs.Stops.{stop_of_meta}
 use Rattle.fc_marks.specs.declared.error.NotedStop.TheVariants.{MetaFailed, MetaFull}
@@ -59,10 +58,11 @@ has_failed Failed told = refl
 has_failed NoMemory told = absurd cc
 has_failed Full told = absurd cc
 
-pub was_full : {T : Type 0} (e : MetaError) → IsErrOf {T = T} (Err (stop_of_meta e)) MetaFull → IsErrOf {T = ⊤} (Err e) Full
-was_full Full told = refl
-was_full Failed told = absurd cc
-was_full NoMemory told = absurd cc
+-- an error that isn't a failed disk's
+pub when_full : {T : Type 0} (e : MetaError) (P : Type 0) → IsErrOf {T = T} (Err (stop_of_meta e)) MetaFull → IsErrOf {T = ⊤} (Err e) Failed ⊎ P → P
+when_full Full P told stays = ⊎_elim (λ failed. absurd cc) (λ p. p) stays
+when_full Failed P told stays = absurd cc
+when_full NoMemory P told stays = absurd cc
 
 -- a count that stood still first has risen since
 pub has_risen : (old mid new : ℕ) → mid ≡ old → HasRisen mid new → HasRisen old new
@@ -70,22 +70,8 @@ has_risen old mid new e risen = subst (λ (n : ℕ). HasRisen n new) e risen
 
 -- ---- room
 
-one_image : (f : Found) (a b : MetaImage) → f ≡ Image a → f ≡ Image b → a ≡ b
+pub one_image : (f : Found) (a b : MetaImage) → f ≡ Image a → f ≡ Image b → a ≡ b
 one_image f a b e h = let q : Image a ≡ Image b = sym e ∙ h in cc
-
-module _ {D : Type 0} (seen : D → List ℕ) (old mid : Meta D) (was image : MetaImage) (said : found seen old ≡ Image was) (is : found seen old ≡ Image image) (head : head_of mid ≡ head_of old) where
-  -- behind a fold its image alone stands in the half
-  pub fold_used : (new : Meta D) → head_of new ≡ head_turned (length (half_bytes (generation_of mid + 1) was)) (head_of mid) → used_of new ≡ length (half_bytes (generation_of old + 1) image)
-  fold_used new turned =
-      ap (λ (h : Head). h.used) turned
-      ∙ (ap (λ (h : Head). length (half_bytes (h.generation + 1) was)) head
-      ∙ ap (λ (i : MetaImage). length (half_bytes (generation_of old + 1) i)) (one_image (found seen old) was image said is))
-
-  pub fold_full : seen (disk_of mid) ≡ seen (disk_of old) → PassesHalf (generation_of mid) was (room_of seen mid) → PassesHalf (generation_of old) image (room_of seen old)
-  fold_full same passes =
-      subst (λ (i : MetaImage). PassesHalf (generation_of old) i (room_of seen old)) (one_image (found seen old) was image said is)
-      (subst (λ (h : Head). PassesHalf h.generation was (room_of seen old)) head
-      (subst (λ (bytes : List ℕ). PassesHalf (generation_of mid) was (half_size bytes)) same passes))
 
 -- a batch that fits has room
 pub fits_then : (b : Bool) (end room : ℕ) → b ≡ nat_le end room → b ≡ true → room < end → ⊥

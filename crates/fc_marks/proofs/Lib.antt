@@ -2,3 +2,5 @@
 pub mod Leaving
 pub mod Counting
 pub mod Folding
+pub mod Causes
+mod MeterExamples

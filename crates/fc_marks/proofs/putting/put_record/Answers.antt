@@ -1,18 +1,17 @@
-use Rattle.std.proofs.Common.{inl, inr, ℕ, ◌+◌, ◌/◌, ◌∷◌, [], length, sym, ap, ◌∙◌, arith}
+use Rattle.std.proofs.Common.{ℕ, ◌/◌, ◌∷◌, [], sym, ap, ◌∙◌}
 use Rattle.std.proofs.lemmas.Result.{err_from_is_err_and}
-use Rattle.fc_format.specs.Bytes.{batch_bytes}
 use Rattle.fc_format.specs.Halves.{Found}
 use Rattle.fc_meta.specs.Answers.{found_with}
-use Rattle.fc_meta.specs.States.{disk_of, found, room_of, used_of}
-use Rattle.fc_marks.proofs.Counting.{few_made, fewer, more_made, short_of_batch, short_of_fold, some_made, was_folded, was_put}
-use Rattle.fc_marks.proofs.Leaving.{goes_on, has_failed, was_full, has_risen, fits_then}
+use Rattle.fc_meta.specs.States.{disk_of, found}
+use Rattle.fc_marks.proofs.Causes.{batch_cut, cut_behind_fold, cut_in_fold, cut_plainly, was_folded, was_put}
+use Rattle.fc_marks.proofs.Leaving.{goes_on, has_failed, has_risen, when_full}
+use Rattle.fc_marks.specs.Stops.{stop_of_meta}
 use Rattle.fc_marks.proofs.putting.put_record.Goals as goal
 
-pub returns-in_err-put-clause-full : goal.returns-in_err-put-clause-full
-returns-in_err-put-clause-full g c =
+pub returns-in_err-put-clause-unfailed : goal.returns-in_err-put-clause-unfailed
+returns-in_err-put-clause-unfailed g c =
     let p = err_from_is_err_and c.from_residual.result c.from_residual.ensures.1 in
-    rw (p.1, p.2) (λ told image is. absurd (fits_then c.fits.result (used_of c.args.meta.now + 1 + length (batch_bytes (c.args.note ∷ []))) (room_of g.M.MetaDisk.seen c.args.meta.now)
-    c.fits.ensures c.if-fits.true (c.in_err-put.ensures.full.0 (was_full c.in_err-put.field-0.0 told))))
+    rw (p.1, p.2) (λ told. ap (λ m. g.M.MetaDisk.fault_count (disk_of m)) (when_full c.in_err-put.field-0.0 _ told c.in_err-put.ensures.refused))
 
 pub returns-in_err-put-2-clause-any_moment : goal.returns-in_err-put-2-clause-any_moment
 returns-in_err-put-2-clause-any_moment g c =
@@ -22,11 +21,10 @@ returns-in_err-put-2-clause-any_moment g c =
     c.in_ok-fold_same.ensures.found (ap (λ (f : Found). found_with f (c.args.note ∷ [])) c.in_ok-fold_same.ensures.found)
     c.in_ok-fold_same.ensures.any_moment c.in_err-put-2.ensures.treats.any_moment
 
-pub returns-in_err-put-2-clause-full : goal.returns-in_err-put-2-clause-full
-returns-in_err-put-2-clause-full g c =
+pub returns-in_err-put-2-clause-unfailed : goal.returns-in_err-put-2-clause-unfailed
+returns-in_err-put-2-clause-unfailed g c =
     let p = err_from_is_err_and c.from_residual-in_err-put-2.result c.from_residual-in_err-put-2.ensures.1 in
-    rw (p.1, p.2) (λ told image is. inr (let none = c.in_err-put-2.ensures.full.0 (was_full c.in_err-put-2.field-0.0 told) in
-    let room = c.in_ok-fold_same.ensures.room in let used = c.in_ok-fold_same.ensures.used image is in omega (arith, none, room, used)))
+    rw (p.1, p.2) (λ told. ap (λ m. g.M.MetaDisk.fault_count (disk_of m)) (when_full c.in_err-put-2.field-0.0 _ told c.in_err-put-2.ensures.refused) ∙ c.in_ok-fold_same.ensures.quiet)
 
 pub returns-in_err-put-2-clause-failed : goal.returns-in_err-put-2-clause-failed
 returns-in_err-put-2-clause-failed g c =
@@ -47,15 +45,12 @@ returns-then-fits-clause-put g c =
     was_put g.M.MetaDisk.seen g.M.MetaDisk.calls c.args.note c.args.meta.now c.put.new.self (sym c.fits.ensures ∙ c.if-fits.true)
     c.in_ok-put.ensures.found c.in_ok-put.ensures.head c.in_ok-put.ensures.treats.asks.counted
 
-pub returns-in_err-put-clause-within : goal.returns-in_err-put-clause-within
-returns-in_err-put-clause-within g c =
+pub returns-in_err-put-clause-short : goal.returns-in_err-put-clause-short
+returns-in_err-put-clause-short g c =
     let p = err_from_is_err_and c.from_residual.result c.from_residual.ensures.1 in
-    let first : ℕ = g.M.MetaDisk.calls (disk_of c.args.meta.now) in
-    let now : ℕ = g.M.MetaDisk.calls (disk_of c.put.new.self) in
-    rw p.1 (short_of_batch g.M.MetaDisk.seen g.M.MetaDisk.calls c.args.note c.args.meta.now c.put.new.self (elim c.in_err-put.ensures.refused [
-      | inl told ↦ some_made 4 first now (c.in_err-put.ensures.treats.asks.stopped told)
-      | inr same ↦ few_made 0 4 first now (omega arith) (ap (λ m. g.M.MetaDisk.calls (disk_of m)) same)
-    ]))
+    rw (p.1, p.2) (cut_plainly g.M.MetaDisk.seen g.M.MetaDisk.calls c.args.note c.args.meta.now c.put.new.self (stop_of_meta c.in_err-put.field-0.0) (sym c.fits.ensures ∙ c.if-fits.true)
+    (batch_cut g.M.MetaDisk.seen g.M.MetaDisk.calls c.args.note c.args.meta.now c.put.new.self c.in_err-put.field-0.0 c.in_err-put.ensures.full.0 c.in_err-put.ensures.full.1
+    c.in_err-put.ensures.treats.asks.stopped c.in_err-put.ensures.refused))
 
 pub returns-in_err-put-clause-room : goal.returns-in_err-put-clause-room
 returns-in_err-put-clause-room g c = ap (λ (n : ℕ). n / 2) c.in_err-put.ensures.treats.size
@@ -72,23 +67,18 @@ returns-clause-room g c = ap (λ (n : ℕ). n / 2) c.in_ok-put-2.ensures.treats.
 pub returns-clause-put : goal.returns-clause-put
 returns-clause-put g c =
     was_folded g.M.MetaDisk.seen g.M.MetaDisk.calls c.args.note c.args.meta.now c.fold_same.new.meta c.put-2.new.self (sym c.fits.ensures ∙ c.if-fits.false)
-    c.in_ok-fold_same.ensures.found c.in_ok-fold_same.ensures.used c.in_ok-fold_same.ensures.counted
-    c.in_ok-put-2.ensures.found c.in_ok-put-2.ensures.head c.in_ok-put-2.ensures.treats.asks.counted
+    c.in_ok-fold_same.ensures.metered c.in_ok-fold_same.ensures.room c.in_ok-fold_same.ensures.counted
+    c.in_ok-put-2.ensures.found c.in_ok-put-2.ensures.head (λ passes. let told = c.in_ok-put-2.ensures.full.1 passes in cc) c.in_ok-put-2.ensures.treats.asks.counted
 
-pub returns-in_err-put-2-clause-within : goal.returns-in_err-put-2-clause-within
-returns-in_err-put-2-clause-within g c =
+pub returns-in_err-put-2-clause-short : goal.returns-in_err-put-2-clause-short
+returns-in_err-put-2-clause-short g c =
     let p = err_from_is_err_and c.from_residual-in_err-put-2.result c.from_residual-in_err-put-2.ensures.1 in
-    let first : ℕ = g.M.MetaDisk.calls (disk_of c.args.meta.now) in
-    let mid : ℕ = g.M.MetaDisk.calls (disk_of c.fold_same.new.meta) in
-    let now : ℕ = g.M.MetaDisk.calls (disk_of c.put-2.new.self) in
-    rw p.1 (short_of_fold g.M.MetaDisk.seen g.M.MetaDisk.calls c.args.note c.args.meta.now c.put-2.new.self (sym c.fits.ensures ∙ c.if-fits.false)
-    (more_made 4 6 first mid now c.in_ok-fold_same.ensures.counted (elim c.in_err-put-2.ensures.refused [
-      | inl told ↦ some_made 4 mid now (c.in_err-put-2.ensures.treats.asks.stopped told)
-      | inr same ↦ few_made 0 4 mid now (omega arith) (ap (λ m. g.M.MetaDisk.calls (disk_of m)) same)
-    ])))
+    rw (p.1, p.2) (cut_behind_fold g.M.MetaDisk.seen g.M.MetaDisk.calls c.args.note c.args.meta.now c.fold_same.new.meta c.put-2.new.self (sym c.fits.ensures ∙ c.if-fits.false)
+    c.in_ok-fold_same.ensures.metered c.in_ok-fold_same.ensures.room c.in_ok-fold_same.ensures.counted (stop_of_meta c.in_err-put-2.field-0.0)
+    (batch_cut g.M.MetaDisk.seen g.M.MetaDisk.calls c.args.note c.fold_same.new.meta c.put-2.new.self c.in_err-put-2.field-0.0 c.in_err-put-2.ensures.full.0 c.in_err-put-2.ensures.full.1
+    c.in_err-put-2.ensures.treats.asks.stopped c.in_err-put-2.ensures.refused))
 
-pub returns-in_err-fold_same-clause-within : goal.returns-in_err-fold_same-clause-within
-returns-in_err-fold_same-clause-within g c =
+pub returns-in_err-fold_same-clause-short : goal.returns-in_err-fold_same-clause-short
+returns-in_err-fold_same-clause-short g c =
     let p = err_from_is_err_and c.from_residual-in_err-fold_same.result c.from_residual-in_err-fold_same.ensures.1 in
-    rw p.1 (short_of_fold g.M.MetaDisk.seen g.M.MetaDisk.calls c.args.note c.args.meta.now c.fold_same.new.meta (sym c.fits.ensures ∙ c.if-fits.false)
-    (fewer 6 10 (g.M.MetaDisk.calls (disk_of c.args.meta.now)) (g.M.MetaDisk.calls (disk_of c.fold_same.new.meta)) (omega arith) c.in_err-fold_same.ensures.within))
+    rw (p.1, p.2) (cut_in_fold g.M.MetaDisk.seen g.M.MetaDisk.calls c.args.note c.args.meta.now c.fold_same.new.meta c.in_err-fold_same.field-0.0 (sym c.fits.ensures ∙ c.if-fits.false) c.in_err-fold_same.ensures.short)
