@@ -15,12 +15,13 @@ use Rattle.fc_legal.specs.Whole.{Whole, lane_at, lanes}
 use Rattle.fc_image.specs.declared.image.MetaImage.{MetaImage}
 use Rattle.fc_kept.specs.Images.{kept_in}
 use Rattle.fc_kept.specs.Kept.{Kept}
+use Rattle.fc_marks.proofs.Leaving.{one_image}
 use Rattle.fc_marks.specs.declared.error.NotedStop.TheVariants.{LogFull}
 use Rattle.fc_meta.specs.States.{found}
 use Rattle.fc_noted.specs.Metered.{Acted}
 use Rattle.fc_marks.specs.declared.error.NotedStop.{NotedStop}
 use Rattle.fc_noted.proofs.Beginning.{begun_steps, begun_steps_are}
-use Rattle.fc_noted.proofs.CallsMade.{counts_still, of_metadata, one_image}
+use Rattle.fc_noted.proofs.CallsMade.{counts_still, of_metadata}
 use Rattle.fc_noted.proofs.Counting.{has_counted}
 use Rattle.fc_noted.proofs.Holding.{HoldSame, have_same, match_same, one_same}
 use Rattle.fc_noted.proofs.Metering.{begun_so}

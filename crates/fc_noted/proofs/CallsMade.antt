@@ -1,21 +1,16 @@
 -- What the count of calls says of a noted store whose metadata stays, or is made anew.
 use Rattle.std.proofs.Common.{◌≡◌, ℕ, ◌+◌, ◌/◌, ◌≤◌, List, length, Result, Ok, Err, IfErr, IsErrAnd, OnOk, refl, sym, ap, subst, ◌∙◌, arith}
-use Rattle.std.specs.Prelude.{IsErrOf, ⊤}
+use Rattle.std.specs.Prelude.{IsErrOf}
 use Rattle.fc_base.specs.Count.{HasRisen}
 use Rattle.fc_desk.specs.Control.{ControlState}
 use Rattle.fc_entry.specs.declared.entry.Entry.{Entry}
-use Rattle.fc_format.specs.Halves.{Found, Image}
-use Rattle.fc_image.specs.declared.image.MetaImage.{MetaImage}
 use Rattle.fc_legal.specs.Whole.{Whole}
 use Rattle.fc_marks.specs.Meter.{HasCause, IsCalledUpTo, IsMetered, Meter}
-use Rattle.fc_marks.specs.Stops.{stop_of_meta}
 use Rattle.fc_marks.specs.declared.error.NotedStop.TheVariants.{LogFull, MetaFailed, MetaFull, NoMemory as WantsMemory}
 use Rattle.fc_marks.specs.declared.error.NotedStop.{NotedStop}
 use Rattle.fc_meta.proofs.Asked.{calls_added}
 use Rattle.fc_meta.specs.Answers.{more_calls}
 use Rattle.fc_meta.specs.States.{disk_of, room_of}
-use Rattle.fc_meta.specs.declared.error.MetaError.TheVariants.{Failed, Full, NoMemory}
-use Rattle.fc_meta.specs.declared.error.MetaError.{MetaError}
 use Rattle.fc_noted.specs.Making.{KeepsCount}
 use Rattle.fc_noted.specs.Metered.{Metered}
 use Rattle.fc_noted.specs.Noted.{Counts}
@@ -40,19 +35,10 @@ memory_wanted e = cc
 pub log_full : {T : Type 0} → IsErrOf {T = T} (Err LogFull) MetaFailed → ⊥
 log_full e = cc
 
--- nor has anything passed the half where memory alone was wanted, or where the disk failed
+-- nor has anything passed the half where memory alone was wanted
 pub memory_alone_full : {T : Type 0} (result : Result T NotedStop) → IfErr result (λ stop. stop ≡ WantsMemory) → IsErrOf result MetaFull → ⊥
 memory_alone_full (Ok x) wanted told = cc
 memory_alone_full (Err stop) wanted told = let full : stop ≡ MetaFull = cc in let same : WantsMemory ≡ MetaFull = sym wanted ∙ full in cc
-
-pub full_unfailed : (e : MetaError) → stop_of_meta e ≡ MetaFull → IsErrOf {T = ⊤} (Err e) Failed → ⊥
-full_unfailed Failed full told = cc
-full_unfailed Full full told = cc
-full_unfailed NoMemory full told = cc
-
--- what is found is one image
-pub one_image : (f : Found) (a b : MetaImage) → f ≡ Image a → f ≡ Image b → a ≡ b
-one_image f a b e h = let q : Image a ≡ Image b = sym e ∙ h in cc
 
 -- calls behind others
 pub calls_more : (n calls old new : ℕ) → old ≡ more_calls calls 0 → new ≡ more_calls n old → new ≡ more_calls (calls + n) 0
@@ -110,8 +96,6 @@ module _ {C D : Type 0} (seen : D → List ℕ) (fault_count calls : D → ℕ) 
   fold_made x called quiet =
       record { counted = 6; made = 6; count = count; called = called; within = omega arith; whole = (refl, quiet); failed = λ e. absurd cc; unfailed = λ e. absurd cc; size = ap (λ (n : ℕ). n / 2) size }
 
-  pub fold_short : {T : Type 0} (stop : NotedStop) → IsCalledUpTo 6 (calls (disk_of old.meta)) (calls (disk_of new.meta)) → (stop ≡ MetaFailed → HasRisen (fault_count (disk_of old.meta)) (fault_count (disk_of new.meta))) →
-      (stop ≡ MetaFull → fault_count (disk_of new.meta) ≡ fault_count (disk_of old.meta)) → KeepsCount {T = T} seen fault_count calls (Err stop) old new
-  fold_short {T = T} stop called risen quiet =
-      let is : (told : NotedStop) → IsErrOf {T = T} (Err stop) told → stop ≡ told = λ told e. cc in
-      record { counted = 6; made = called.0; count = count; called = called.1; within = called.2; whole = tt; failed = λ e. risen (is MetaFailed e); unfailed = λ e. quiet (is MetaFull e); size = ap (λ (n : ℕ). n / 2) size }
+  pub fold_short : {T : Type 0} (stop : NotedStop) → IsCalledUpTo 6 (calls (disk_of old.meta)) (calls (disk_of new.meta)) → (IsErrOf {T = T} (Err stop) MetaFailed → HasRisen (fault_count (disk_of old.meta)) (fault_count (disk_of new.meta))) →
+      (IsErrOf {T = T} (Err stop) MetaFull → fault_count (disk_of new.meta) ≡ fault_count (disk_of old.meta)) → KeepsCount {T = T} seen fault_count calls (Err stop) old new
+  fold_short stop called risen quiet = record { counted = 6; made = called.0; count = count; called = called.1; within = called.2; whole = tt; failed = risen; unfailed = quiet; size = ap (λ (n : ℕ). n / 2) size }

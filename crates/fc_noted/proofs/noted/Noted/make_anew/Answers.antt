@@ -1,14 +1,13 @@
 -- Metadata is made anew by six calls, which are counted before they are made.
-use Rattle.std.proofs.Common.{Err, ℕ, inl, inr, ap, ◌∙◌, arith}
+use Rattle.std.proofs.Common.{⊎_elim, ℕ, inl, inr, ◌∙◌, arith}
 use Rattle.std.proofs.lemmas.Result.{err_from_is_err_and}
-use Rattle.fc_marks.proofs.Counting.{few_made, some_made}
+use Rattle.fc_marks.proofs.Counting.{some_made}
 use Rattle.fc_marks.proofs.Folding.{folded, fold_short as cut_short}
+use Rattle.fc_marks.proofs.Leaving.{has_failed, when_full}
 use Rattle.fc_marks.specs.Stops.{stop_of_meta}
 use Rattle.fc_meta.specs.States.{disk_of}
-use Rattle.fc_meta.specs.declared.error.MetaError.{MetaError}
 use Rattle.fc_noted.proofs.Calls.{at_once}
-use Rattle.fc_noted.proofs.CallsMade.{fold_made, fold_short, full_unfailed}
-use Rattle.fc_noted.proofs.Opening.{was_failed}
+use Rattle.fc_noted.proofs.CallsMade.{fold_made, fold_short}
 use Rattle.fc_noted.proofs.noted.Noted.make_anew.Goals as goal
 
 pub returns-in_err-fold-clause-calls : goal.returns-in_err-fold-clause-calls
@@ -28,10 +27,7 @@ returns-in_err-fold-clause-short g c =
     let p = err_from_is_err_and c.from_residual.result c.from_residual.ensures.1 in
     rw (p.1, p.2) (
     cut_short g.M.MetaDisk.seen c.args.self.now.meta c.fold.new.self c.args.image.now g.M.MetaDisk.calls c.in_err-fold.field-0.0 c.in_err-fold.ensures.treats.asks.stopped c.in_err-fold.ensures.short c.in_err-fold.ensures.full
-    (elim c.in_err-fold.ensures.stays [
-      | inl told ↦ inl told
-      | inr stays ↦ inr stays.5
-    ])
+    (⊎_elim (λ told. inl told) (λ stays. inr stays.5) c.in_err-fold.ensures.stays)
     )
 
 -- ---- by the count
@@ -46,13 +42,9 @@ returns-in_err-fold-clause-counted g c =
     fold_short g.M.MetaDisk.seen g.M.MetaDisk.fault_count g.M.MetaDisk.calls c.args.self.now new (c.saturating_add-self.ensures ∙ at_once 6 c.args.self.now.calls (omega arith)) c.in_err-fold.ensures.treats.size (stop_of_meta c.in_err-fold.field-0.0)
     (elim c.in_err-fold.ensures.stays [
       | inl told ↦ some_made 6 before now (c.in_err-fold.ensures.treats.asks.stopped told)
-      | inr stays ↦ few_made 2 6 before now (omega arith) stays.5
+      | inr stays ↦ (2, stays.5, omega arith)
     ])
-    (λ e. c.in_err-fold.ensures.treats.asks.failed (ap (λ (z : MetaError). Err z) (was_failed c.in_err-fold.field-0.0 e)))
-    (λ e. elim c.in_err-fold.ensures.stays [
-      | inl told ↦ absurd (full_unfailed c.in_err-fold.field-0.0 e told)
-      | inr stays ↦ stays.4
-    ])
+    (λ told. c.in_err-fold.ensures.treats.asks.failed (has_failed c.in_err-fold.field-0.0 told)) (λ told. (when_full c.in_err-fold.field-0.0 _ told c.in_err-fold.ensures.stays).4)
     )
 
 pub returns-clause-counted : goal.returns-clause-counted
