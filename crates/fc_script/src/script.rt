@@ -345,10 +345,7 @@ impl Script {
                 Request::Unread(*fault),
                 Refusal::Words(*fault),
             ))),
-            Script::Command(command) => match ask_command(store, command) {
-                Ok(asked) => Ok(Some(asked)),
-                Err(NoMemory) => Err(NoMemory),
-            },
+            Script::Command(command) => Ok(Some(ask_command(store, command)?)),
             Script::Parts {
                 access,
                 volume,
@@ -372,10 +369,7 @@ impl Script {
                 Err(NoMemory) => Err(NoMemory),
             },
             Script::Lines { commands, .. } => match commands.front() {
-                Some(command) => match ask_command(store, command) {
-                    Ok(asked) => Ok(Some(asked)),
-                    Err(NoMemory) => Err(NoMemory),
-                },
+                Some(command) => Ok(Some(ask_command(store, command)?)),
                 None => {
                     *self = Script::Over;
                     Ok(None)
@@ -400,13 +394,8 @@ impl Script {
             }
             Script::Command(command) => {
                 let behind = Behind::Passing(seconds_of(command));
-                match behind_last(store, behind, entry) {
-                    Ok(script) => {
-                        *self = script;
-                        Ok(())
-                    }
-                    Err(NoMemory) => Err(NoMemory),
-                }
+                *self = behind_last(store, behind, entry)?;
+                Ok(())
             }
             Script::Parts { next, last, .. } => {
                 if *next < *last {
@@ -423,13 +412,8 @@ impl Script {
                     return Ok(());
                 }
                 let behind = mem::replace(behind, Behind::Passing(0));
-                match behind_last(store, behind, entry) {
-                    Ok(script) => {
-                        *self = script;
-                        Ok(())
-                    }
-                    Err(NoMemory) => Err(NoMemory),
-                }
+                *self = behind_last(store, behind, entry)?;
+                Ok(())
             }
         }
     }

@@ -22,17 +22,17 @@ returns-then-next-last g c = λ w v answer stands.
     (parts_more c.args.store.now.control.grain c.in-Parts.access c.in-Parts.volume c.in-Parts.block c.in-Parts.count c.in-Parts.next c.in-Parts.last w c.args.entry.now v
     (subst (λ (x : Script). IsAnswer c.args.store.now.control.grain x w c.args.entry.now v) c.in-Parts.is answer) (omega (arith, c.if-next-last.true)))
 
-pub returns-in-Parts : goal.returns-in-Parts
-returns-in-Parts g c = λ w v answer stands.
+pub returns-else-next-last : goal.returns-else-next-last
+returns-else-next-last g c = λ w v answer stands.
     subst (λ (x : Script). IsLeft c.args.store.now.control.grain x w c.args.entry.now v Over) (sym c.in-Parts.is)
     (parts_last c.args.store.now.control.grain c.in-Parts.access c.in-Parts.volume c.in-Parts.block c.in-Parts.count c.in-Parts.next c.in-Parts.last w c.args.entry.now v
     (subst (λ (x : Script). IsAnswer c.args.store.now.control.grain x w c.args.entry.now v) c.in-Parts.is answer) (omega (arith, c.if-next-last.false)))
 
-pub returns-in-Ok : goal.returns-in-Ok
-returns-in-Ok g c = λ w v answer stands.
-    subst (λ (x : Script). IsLeft c.args.store.now.control.grain x w c.args.entry.now v c.in-Ok.script) (sym c.in-Command.is)
-    (alone_left c.args.store.now.control.grain c.in-Command.command w c.args.entry.now v c.in-Ok.script c.seconds_of.result c.seconds_of.ensures (c.in-Ok.ensures.goes v stands)
-    (c.in-Ok.ensures.fits c.args.store.now.control.grain v.books.tables))
+pub returns-in_ok-self-in-Command : goal.returns-in_ok-self-in-Command
+returns-in_ok-self-in-Command g c = λ w v answer stands.
+    subst (λ (x : Script). IsLeft c.args.store.now.control.grain x w c.args.entry.now v c.in_ok-self-in-Command.field-0) (sym c.in-Command.is)
+    (alone_left c.args.store.now.control.grain c.in-Command.command w c.args.entry.now v c.in_ok-self-in-Command.field-0 c.seconds_of.result c.seconds_of.ensures (c.in_ok-self-in-Command.ensures.goes v stands)
+    (c.in_ok-self-in-Command.ensures.fits c.args.store.now.control.grain v.books.tables))
 
 pub returns-in-Seconds : goal.returns-in-Seconds
 returns-in-Seconds g c =
@@ -49,12 +49,12 @@ returns-then-not-is_empty g c = λ w v answer stands.
     subst (λ (x : Script). IsLeft c.args.store.now.control.grain x w c.args.entry.now v (Lines c.pop_front-answered.new.self c.in-Lines.behind)) (sym c.in-Lines.is)
     (lines_more c.args.store.now.control.grain c.in-Lines.commands c.in-Lines.behind w c.args.entry.now v c.pop_front-answered.new.self c.pop_front-answered.ensures.rest (omega (arith, some)))
 
-pub returns-in-Ok-behind_last : goal.returns-in-Ok-behind_last
-returns-in-Ok-behind_last g c = λ w v answer stands.
+pub returns-in_ok-self-in-Lines : goal.returns-in_ok-self-in-Lines
+returns-in_ok-self-in-Lines g c = λ w v answer stands.
     let none : deque_len c.pop_front-answered.new.self ≡ 0 = eqb-true (deque_len c.pop_front-answered.new.self) 0 (sym c.if-not-is_empty.ensures) in
-    subst (λ (x : Script). IsLeft c.args.store.now.control.grain x w c.args.entry.now v c.in-Ok-behind_last.script) (sym c.in-Lines.is)
-    (lines_last c.args.store.now.control.grain c.in-Lines.commands c.in-Lines.behind w c.args.entry.now v c.in-Ok-behind_last.script (omega (arith, ap (length {A = Command}) c.pop_front-answered.ensures.rest, none))
+    subst (λ (x : Script). IsLeft c.args.store.now.control.grain x w c.args.entry.now v c.in_ok-self-in-Lines.field-0) (sym c.in-Lines.is)
+    (lines_last c.args.store.now.control.grain c.in-Lines.commands c.in-Lines.behind w c.args.entry.now v c.in_ok-self-in-Lines.field-0 (omega (arith, ap (length {A = Command}) c.pop_front-answered.ensures.rest, none))
     (subst (λ (x : Script). IsAnswer c.args.store.now.control.grain x w c.args.entry.now v) c.in-Lines.is answer)
-    (subst (λ (b : Behind). GoesOn c.args.store.now.control.grain v (behind_last v c.args.entry.now.reply b []) (agenda_of c.args.store.now.control.grain c.in-Ok-behind_last.script)) c.replace-behind.ensures.value
-    (c.in-Ok-behind_last.ensures.goes v stands))
-    (c.in-Ok-behind_last.ensures.fits c.args.store.now.control.grain v.books.tables))
+    (subst (λ (b : Behind). GoesOn c.args.store.now.control.grain v (behind_last v c.args.entry.now.reply b []) (agenda_of c.args.store.now.control.grain c.in_ok-self-in-Lines.field-0)) c.replace-behind.ensures.value
+    (c.in_ok-self-in-Lines.ensures.goes v stands))
+    (c.in_ok-self-in-Lines.ensures.fits c.args.store.now.control.grain v.books.tables))

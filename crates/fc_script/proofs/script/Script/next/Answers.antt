@@ -20,11 +20,11 @@ returns-in-Unread g c =
     next_as c.args.store.now c.args.self.now _ (Unread c.in-Unread.fault) (Unread c.in-Unread.fault) (Some (Refused (UnreadAsked c.in-Unread.fault) (Words c.in-Unread.fault)))
     c.in-Unread.is refl (unread_next c.args.store.now c.in-Unread.fault)
 
-pub returns-in-Ok : goal.returns-in-Ok
-returns-in-Ok g c =
-    next_as c.args.store.now c.args.self.now _ (Alone c.in-Command.command) (Alone c.in-Command.command) (Some c.in-Ok.asked) c.in-Command.is refl
-    (alone_next c.args.store.now c.in-Command.command c.in-Ok.asked
-    (subst (λ (x : Script). Fits c.args.store.now.control.grain c.args.store.now.control.tables x) c.in-Command.is c.requires.fits) c.in-Ok.ensures.request c.in-Ok.ensures.can c.in-Ok.ensures.no_fill)
+pub returns-in_ok-ask_command-in-Command : goal.returns-in_ok-ask_command-in-Command
+returns-in_ok-ask_command-in-Command g c =
+    next_as c.args.store.now c.args.self.now _ (Alone c.in-Command.command) (Alone c.in-Command.command) (Some c.in_ok-ask_command-in-Command.field-0) c.in-Command.is refl
+    (alone_next c.args.store.now c.in-Command.command c.in_ok-ask_command-in-Command.field-0
+    (subst (λ (x : Script). Fits c.args.store.now.control.grain c.args.store.now.control.tables x) c.in-Command.is c.requires.fits) c.in_ok-ask_command-in-Command.ensures.request c.in_ok-ask_command-in-Command.ensures.can c.in_ok-ask_command-in-Command.ensures.no_fill)
 
 pub returns-in-Parts : goal.returns-in-Parts
 returns-in-Parts g c =
@@ -50,12 +50,12 @@ ask_command-requires-in-Some-clause-itself g c =
     first_asks_itself c.args.store.now c.in-Lines.commands c.in-Lines.behind c.in-Some.command.now (omega (arith, c.in-Some.ensures.variant.0 refl)) c.in-Some.ensures.lookup
     (subst (λ (x : Script). Fits c.args.store.now.control.grain c.args.store.now.control.tables x) c.in-Lines.is c.requires.fits)
 
-pub returns-in-Ok-ask_command : goal.returns-in-Ok-ask_command
-returns-in-Ok-ask_command g c =
-    subst (λ (x : Script). IsNextOf c.args.store.now x (Lines c.in-Lines.commands c.in-Lines.behind) (Some c.in-Ok-ask_command.asked)) (sym c.in-Lines.is)
+pub returns-in_ok-ask_command-in-Some : goal.returns-in_ok-ask_command-in-Some
+returns-in_ok-ask_command-in-Some g c =
+    subst (λ (x : Script). IsNextOf c.args.store.now x (Lines c.in-Lines.commands c.in-Lines.behind) (Some c.in_ok-ask_command-in-Some.field-0)) (sym c.in-Lines.is)
     (lines_next c.args.store.now c.in-Lines.commands c.in-Lines.behind c.in-Some.command.now (omega (arith, c.in-Some.ensures.variant.0 refl)) c.in-Some.ensures.lookup
     (subst (λ (x : Script). Fits c.args.store.now.control.grain c.args.store.now.control.tables x) c.in-Lines.is c.requires.fits)
-    c.in-Ok-ask_command.asked c.in-Ok-ask_command.ensures.request c.in-Ok-ask_command.ensures.can c.in-Ok-ask_command.ensures.no_fill)
+    c.in_ok-ask_command-in-Some.field-0 c.in_ok-ask_command-in-Some.ensures.request c.in_ok-ask_command-in-Some.ensures.can c.in_ok-ask_command-in-Some.ensures.no_fill)
 
 pub returns-in-None : goal.returns-in-None
 returns-in-None g c =
