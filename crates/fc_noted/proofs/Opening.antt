@@ -1,5 +1,5 @@
 -- A noted store as it begins: without volumes, over disks without names.
-use Rattle.std.proofs.Common.{◌≡◌, ℕ, zero, suc, ◌^◌, ◌<◌, ◌≤◌, Bool, true, false, cond, not, None, List, [], ◌∷◌, length, map, filter, get_or, replicate, All, Contains, inl, inr, refl, sym, ap, subst, ◌∙◌, arith}
+use Rattle.std.proofs.Common.{◌≡◌, ℕ, zero, suc, ◌+◌, ◌^◌, ◌<◌, ◌≤◌, Bool, true, false, cond, not, None, List, [], ◌∷◌, length, map, filter, get_or, replicate, All, Contains, inl, inr, refl, sym, ap, subst, ◌∙◌, arith}
 use Rattle.std.specs.List.{count_by}
 use Rattle.std.proofs.lemmas.List.{get_or-map, length-map}
 use Rattle.std.proofs.lemmas.List.FromFn.{get_or-map-range_with_len, length-map-range_with_len}
@@ -33,14 +33,14 @@ use Rattle.fc_lanes.specs.Dealing.{Begin, all_dealt, dealt, pools_dealt}
 use Rattle.fc_lanes.proofs.Dealing.{few_dealt}
 use Rattle.fc_legal.specs.Whole.{Whole, opened, pool_at}
 use Rattle.fc_marks.specs.Stops.{stop_of_meta}
-use Rattle.fc_marks.specs.declared.error.NotedStop.TheVariants.{LogFull, MetaFailed}
+use Rattle.fc_marks.specs.declared.error.NotedStop.TheVariants.{LogFull, MetaFailed, MetaFull}
 use Rattle.fc_mdisk.specs.Disk.{DiskState, IsFresh, is_flat}
 use Rattle.fc_meta.proofs.Moments.{weaker}
 use Rattle.fc_meta.proofs.Opening.{blank}
 use Rattle.fc_meta.specs.Answers.{LeavesEither, more_calls}
 use Rattle.fc_meta.specs.declared.error.MetaError.TheVariants.{Failed, Full, NoMemory}
 use Rattle.fc_meta.specs.declared.error.MetaError.{MetaError}
-use Rattle.fc_meta.specs.States.{IsResting, found, used_of}
+use Rattle.fc_meta.specs.States.{IsResting, found, generation_of, room_of, used_of}
 use Rattle.fc_metadisk.specs.Disk.{LeavesOnly, Only}
 use Rattle.fc_rules.specs.LaneTold.{LaneOf}
 use Rattle.fc_script.specs.Asking.{Fits}
@@ -262,7 +262,9 @@ pub record HasBegun {C D : Type 0} (seen : D → List ℕ) (may_leave : D → Li
   pub unmarked : n.marks.items ≡ []
   pub over : n.script ≡ Over
   pub idle : n.under_way ≡ None
+  pub generation : generation_of n.meta ≡ 1
   pub used : used_of n.meta ≡ filled_size image
+  pub fit : 1 + filled_size image ≤ room_of seen n.meta
   pub called : n.calls ≡ more_calls 4 0
 
 pub begins : {C D : Type 0} (seen : D → List ℕ) (may_leave : D → List ℕ → Type 0) (lanes : ℕ) (disks : List DiskState) (n : Noted C D) → HasBegun seen may_leave lanes disks n →
@@ -289,9 +291,9 @@ begins seen may_leave lanes disks n h =
         matches = match_begun grain lanes disks n.store.lanes h.begin n.named;
       };
       counts = record {
-        meter = record { image = h.image; used = filled_size h.image; calls = 4 };
-        metered = opened_meter (opened (pools_dealt lanes disks)) h.image refl (ap kept_in h.empty);
-        is = record { image = h.says; used = h.used };
+        meter = record { image = h.image; generation = 1; used = filled_size h.image; calls = 4; full = None };
+        metered = opened_meter (opened (pools_dealt lanes disks)) h.image refl (ap kept_in h.empty) h.fit;
+        is = record { image = h.says; generation = h.generation; used = h.used; fits = refl };
         calls = h.called;
       };
     }
@@ -335,6 +337,11 @@ pub was_failed : (e : MetaError) → stop_of_meta e ≡ MetaFailed → e ≡ Fai
 was_failed Failed is = refl
 was_failed NoMemory is = absurd cc
 was_failed Full is = absurd cc
+
+pub was_full : (e : MetaError) → stop_of_meta e ≡ MetaFull → e ≡ Full
+was_full Full is = refl
+was_full Failed is = absurd cc
+was_full NoMemory is = absurd cc
 
 -- ---- with another script
 

@@ -1,11 +1,13 @@
 -- Over disks without names, with the first image.
-use Rattle.std.proofs.Common.{None, true, refl, sym, subst, ◌∙◌, arith, ◌/◌, ap}
+use Rattle.std.proofs.Common.{None, true, refl, sym, subst, ◌+◌, ◌∙◌, ◌≤◌, arith, ◌/◌, ap}
 use Rattle.fc_format.specs.Ranges.{HasGoodIds}
 use Rattle.fc_lanes.specs.Dealing.{pools_dealt}
 use Rattle.fc_script.specs.declared.script.Script.TheVariants.{Over}
 use Rattle.fc_noted.specs.declared.noted.Noted.{Noted}
-use Rattle.fc_noted.proofs.Opening.{begins, first_ids, image_of_nothing, leaves_first, leaves_untouched, not_log, was_failed}
+use Rattle.fc_noted.proofs.Opening.{begins, first_ids, image_of_nothing, leaves_first, leaves_untouched, not_log, was_failed, was_full}
+use Rattle.fc_kept.specs.Images.{kept_in}
 use Rattle.fc_marks.proofs.Counting.{some_made}
+use Rattle.fc_marks.specs.Meter.{filled_size}
 use Rattle.fc_noted.proofs.Calls.{at_once}
 use Rattle.fc_noted.proofs.noted.Noted.over.Goals as goal
 
@@ -52,7 +54,9 @@ returns-in-Ok-open-clause-noted g c = λ disks begun.
       unmarked = c.new.ensures.items;
       over = refl;
       idle = refl;
+      generation = c.in-Ok-open.ensures.generation;
       used = c.in-Ok-open.ensures.used;
+      fit = subst (λ half. 1 + filled_size c.in-Ok.image ≤ half) (sym (ap (λ n. n / 2) c.in-Ok-open.ensures.size)) c.in-Ok-open.ensures.room;
       called = let e = at_once 4 0 (omega arith) in omega (arith, e);
     }
 
@@ -74,3 +78,10 @@ returns-clause-within g c = λ is. some_made 4 (g.M.MetaDisk.calls c.args.disk) 
 
 pub returns-clause-failed : goal.returns-clause-failed
 returns-clause-failed g c = λ is. c.in-Err-open.ensures.failed (was_failed c.in-Err-open.error (sym c.stop_of.ensures ∙ is))
+
+-- ---- the first image doesn't fit
+
+pub returns-clause-full : goal.returns-clause-full
+returns-clause-full g c = λ is.
+    let empty = image_of_nothing c.args.store c.control.result.now c.all_lanes.result.now (pools_dealt 4 c.requires.begins.0) c.in-Ok.image c.control.ensures c.all_lanes.ensures c.requires.begins.1.stands c.in-Ok.ensures in
+    (c.in-Ok.image, ap kept_in empty, c.in-Err-open.ensures.full (was_full c.in-Err-open.error (sym c.stop_of.ensures ∙ is)))
