@@ -1,5 +1,5 @@
 -- A record that is put, on closed examples: an image without volumes takes 57 bytes of a half, a batch of the record 14.
-use Rattle.std.proofs.Common.{◌≡◌, ℕ, ◌-◌, ◌^◌, List, [], Option, Some, None, refl}
+use Rattle.std.proofs.Common.{◌≡◌, ℕ, ◌-◌, ◌^◌, [], Option, Some, None, refl}
 use Rattle.fc_format.specs.Bytes.{batch_bytes, half_bytes, image_bytes, list_bytes, record_bytes}
 use Rattle.fc_image.specs.declared.image.MetaImage.{MetaImage}
 use Rattle.fc_image.specs.declared.record.MetaRecord.{MetaRecord}

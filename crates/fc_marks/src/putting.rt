@@ -18,7 +18,7 @@ use std::alloc::Global;
 
 /// Folds metadata as it stands: its image, with all batches, becomes the image of the other half. Nothing that it says changes.
 ///
-/// Six calls of the disk. MetaFull where the image doesn't fit a half.
+/// Six calls of the disk. MetaFull where the image doesn't fit a half or has no next generation: behind the first two.
 fn fold_same<M: MetaDisk>(alloc: Global, meta: &mut Meta<M>) -> Result<(), NotedStop>
     requires rests { IsResting M.seen M.may_leave meta.old }
     requires ids { (image : Said) → found M.seen meta.old ≡ Image image → HasGoodIds image }
@@ -56,8 +56,9 @@ pub fn calls_to_put<M: MetaDisk>(meta: &Meta<M>, note: MetaRecord) -> u64
 /// A crash leaves what stood before, or that with the record. It makes as many calls of the disk as the record costs, and behind an error
 /// at most so many.
 ///
-/// MetaFull exactly where the image doesn't fit a half, or leaves no room in it for the batch: behind the two calls of a fold that close
-/// the gate of the other half, or behind the whole fold. MetaFailed where a call failed before that was seen.
+/// MetaFull only where the image doesn't fit a half or has no next generation, behind the two calls of a fold that close the gate of the
+/// other half; or where it leaves no room in its half for the batch, behind the whole fold. Otherwise MetaFailed where a call failed before
+/// that was seen, and NoMemory where memory was wanted.
 pub fn put_record<M: MetaDisk>(
     alloc: Global,
     meta: &mut Meta<M>,
