@@ -1,5 +1,5 @@
 -- How many calls of its disk the metadata of a history costs, entry by entry, and how full it gets.
-use Rattle.std.specs.Prelude.{◌≡◌, ◌≢◌, ℕ, ◌+◌, ◌<◌, ◌≤◌, List, [], ◌∷◌, ◌++◌, fold, length, Option, Some, None}
+use Rattle.std.specs.Prelude.{◌≡◌, ◌≢◌, ◌⊎◌, ℕ, ◌+◌, ◌<◌, ◌≤◌, List, [], ◌∷◌, ◌++◌, fold, length, Option, Some, None}
 use Rattle.fc_base.specs.declared.command.Command.{Command}
 use Rattle.fc_base.specs.declared.ids.VolId.{VolId}
 use Rattle.fc_base.specs.declared.request.Place.TheVariants.{Every}
@@ -14,7 +14,8 @@ use Rattle.fc_image.specs.declared.image.MetaImage.{MetaImage}
 use Rattle.fc_image.specs.declared.record.MetaRecord.{MetaRecord}
 use Rattle.fc_image.specs.declared.record.MetaRecord.TheVariants.{Torn as TornRecord}
 use Rattle.fc_kept.specs.Actions.{Action, Action.Data, Action.Note, Action.Fold, actions_of_command, actions_of_stop, mark_of}
-use Rattle.fc_kept.specs.Images.{kept_in}
+use Rattle.fc_imaging.specs.Without.{without}
+use Rattle.fc_kept.specs.Images.{kept_in, meta_of}
 use Rattle.fc_kept.specs.Kept.{LostGrains, rows_kept}
 use Rattle.fc_kept.specs.Marks.{asked_write}
 use Rattle.fc_kept.specs.Prefix.{AreStepsOf}
@@ -103,34 +104,38 @@ pub record CommandActs (grain : GrainSize) (w : Whole) (command : Command) (acti
   pub is_loop : IsLoopOf grain (after_settling grain w).books command loop
   pub are : actions_of_command (settle w.books) (decided_on grain (after_settling grain w) command loop) ≡ actions
 
--- An image of all that is told.
-abbrev pub SaysAll : MetaImage → Whole → Type 0
-SaysAll image w = (lost : List LostGrains) × (kept_in image ≡ made_anew w w.rows lost)
+-- What it says is put as it is; or, where a volume goes, what is told behind the settling is, and then that volume left out.
+abbrev pub IsPutAnew : Whole → List LostGrains → MetaImage → Type 0
+IsPutAnew settled lost image = (image ≡ meta_of (kept_in image)) ⊎ ((gone : VolId) × (image ≡ without gone (meta_of (made_anew settled settled.rows lost))))
 
--- It makes metadata anew by an image of what is told with its entry.
-pub record MakesAnew (grain : GrainSize) (w : Whole) (command : Command) (entry : Entry) (next : Whole) (image : MetaImage) : Type 0 where
+-- It makes metadata anew by an image of what is told with its entry. Grains are lost that were by the image before.
+pub record MakesAnew (grain : GrainSize) (w : Whole) (before : MetaImage) (command : Command) (entry : Entry) (next : Whole) (image : MetaImage) : Type 0 where
   pub step : Step grain w entry next
   pub every : entry.place ≡ Every
   pub asked : entry.request ≡ Asked command
   pub acts : CommandActs grain w command (Fold ∷ [])
-  pub says : SaysAll image next
+  pub says : kept_in image ≡ made_anew next next.rows (kept_in before).lost
+  pub put : IsPutAnew (after_settling grain w) (kept_in before).lost image
 
 -- ---- a history
 
--- With the gate before it the first image, which says nothing, passes the half.
+-- The first image says nothing. With the gate before it, it passes the half.
+abbrev pub first_image : MetaImage
+first_image = meta_of nothing_kept
+
 abbrev pub FirstPasses : ℕ → Type 0
-FirstPasses half = (image : MetaImage) × (kept_in image ≡ nothing_kept) × (half < 1 + filled_size image)
+FirstPasses half = half < 1 + filled_size first_image
 
 -- What metadata was asked for behind these entries: four calls to open it, and then by each entry in its turn.
 pub data Metered (grain : GrainSize) (half : ℕ) : List Entry → Whole → Meter → Type 0 where
-  opened : (w : Whole) (image : MetaImage) → w.entries ≡ 0 → kept_in image ≡ nothing_kept → 1 + filled_size image ≤ half →
-      Metered grain half [] w (record { image = image; generation = 1; used = filled_size image; calls = 4; full = None })
+  opened : (w : Whole) → w.entries ≡ 0 → 1 + filled_size first_image ≤ half →
+      Metered grain half [] w (record { image = first_image; generation = 1; used = filled_size first_image; calls = 4; full = None })
   access : (entries : List Entry) (w : Whole) (m : Meter) (entry : Entry) (next : Whole) (actions : List Action) →
       Metered grain half entries w m → Step grain w entry next → entry.place ≢ Every →
       AreActionsOf grain w (kept_in m.image).rows entry actions →
       Metered grain half (entries ++ entry ∷ []) next (after_actions half m actions)
   anew : (entries : List Entry) (w : Whole) (m : Meter) (entry : Entry) (next : Whole) (command : Command) (image : MetaImage) →
-      Metered grain half entries w m → MakesAnew grain w command entry next image →
+      Metered grain half entries w m → MakesAnew grain w m.image command entry next image →
       Metered grain half (entries ++ entry ∷ []) next (with_fold half image m)
   unchanged : (entries : List Entry) (w : Whole) (m : Meter) (entry : Entry) (next : Whole) (command : Command) →
       Metered grain half entries w m → Step grain w entry next → entry.place ≡ Every → entry.request ≡ Asked command →
@@ -148,5 +153,5 @@ pub data GoesInto (grain : GrainSize) (half : ℕ) (w : Whole) (m : Meter) : Req
   tears : (request : Request) (front back : List DiskStep) (step : DiskStep) (torn : Torn) →
       AreStepsOf grain w request (front ++ step ∷ back) →
       GoesInto grain half w m request (after_actions half m (actions_stopped grain (kept_in m.image).rows request front step (Some torn)))
-  anew : (command : Command) (entry : Entry) (next : Whole) (image : MetaImage) → MakesAnew grain w command entry next image →
+  anew : (command : Command) (entry : Entry) (next : Whole) (image : MetaImage) → MakesAnew grain w m.image command entry next image →
       GoesInto grain half w m (Asked command) (with_fold half image m)
