@@ -1,5 +1,5 @@
 -- Metadata is made anew by six calls, which are counted before they are made.
-use Rattle.std.proofs.Common.{⊎_elim, ℕ, inl, inr, ◌∙◌, arith}
+use Rattle.std.proofs.Common.{ℕ, inl, inr, ◌∙◌, arith}
 use Rattle.std.proofs.lemmas.Result.{err_from_is_err_and}
 use Rattle.fc_marks.proofs.Counting.{some_made}
 use Rattle.fc_marks.proofs.Folding.{folded, fold_short as cut_short}
@@ -27,7 +27,10 @@ returns-in_err-fold-clause-short g c =
     let p = err_from_is_err_and c.from_residual.result c.from_residual.ensures.1 in
     rw (p.1, p.2) (
     cut_short g.M.MetaDisk.seen c.args.self.now.meta c.fold.new.self c.args.image.now g.M.MetaDisk.calls c.in_err-fold.field-0.0 c.in_err-fold.ensures.treats.asks.stopped c.in_err-fold.ensures.short c.in_err-fold.ensures.full
-    (⊎_elim (λ told. inl told) (λ stays. inr stays.5) c.in_err-fold.ensures.stays)
+    (elim c.in_err-fold.ensures.stays [
+      | inl told ↦ inl told
+      | inr stays ↦ inr stays.5
+    ])
     )
 
 -- ---- by the count
