@@ -17,6 +17,7 @@ use Rattle.fc_follow.specs.Following.{restarts}
 use Rattle.fc_image.specs.declared.image.MetaImage.{MetaImage}
 use Rattle.fc_kept.specs.Actions.{Action.Fold, actions_of_command, has_effect}
 use Rattle.fc_kept.specs.Images.{kept_in}
+use Rattle.fc_kept.specs.Kept.{Kept}
 use Rattle.fc_lane.specs.Lane.{IsSameLane, LaneView}
 use Rattle.fc_lanes.specs.AllLanes.{EachLane}
 use Rattle.fc_legal.specs.Agenda.{Asks}
@@ -28,9 +29,9 @@ use Rattle.fc_meta.specs.Answers.{more_calls}
 use Rattle.fc_meta.specs.States.{room_of}
 use Rattle.fc_noted.proofs.CallsMade.{calls_more, stops_into}
 use Rattle.fc_noted.proofs.Commanding.{BecomesAnew}
-use Rattle.fc_noted.proofs.Planned.{IsPlanned, becoming, entry_of}
+use Rattle.fc_noted.proofs.Planned.{IsPlanned, becoming, entry_of, putting}
 use Rattle.fc_noted.specs.Making.{CountsInto, IsImageAfter}
-use Rattle.fc_noted.specs.Metered.{CommandActs, GoesInto.anew, MakesAnew}
+use Rattle.fc_noted.specs.Metered.{CommandActs, GoesInto.anew, IsPutAnew, MakesAnew}
 use Rattle.fc_noted.specs.Noted.{IsNotedAt}
 use Rattle.fc_noted.specs.declared.noted.Noted.{Noted}
 use Rattle.fc_script.specs.Script.{agenda_of}
@@ -39,6 +40,7 @@ use Rattle.fc_store.specs.Stepping.{no_lane}
 use Rattle.law_commanded.proofs.Anew.{anew_is}
 use Rattle.law_commanded.proofs.Removing.{IsRemoval, removal_is}
 use Rattle.law_commanded.specs.Law.{CommandedLaw, HasCome, left_behind}
+use Rattle.law_crash.specs.Leaving.{made_anew}
 use Rattle.law_crash.specs.Points.{Point}
 use Rattle.law_noted.specs.Records.{removed_by}
 
@@ -79,19 +81,24 @@ module _ (grain : GrainSize) (w : Whole) (command : Command) (decisions : ℕ) (
   pub acts_not : (has_effect settling || has_effect decision) ≡ false → CommandActs grain w command []
   acts_not e = by_effect false e
 
--- by an image of what is told with its entry
+-- by an image of what is told with its entry, where metadata said this before
 pub makes_anew : (law : CommandedLaw) (grain : GrainSize) (entries : List Entry) (w : Whole) (least : List Row) (command : Command) (old : List LaneView) (p : Point) → HasCome grain entries w least old p → w.entries < 262144 →
     (decisions : ℕ) (s : StoreView) (settling decision : Decision) (plan : IsPlanned grain w command decisions s settling decision) → EachLane IsSameLane old s.lanes → settling ≡ settle w.books →
     ((has_effect settling || has_effect decision) || is_some (removed_by decision.events)) ≡ true → (image : MetaImage) → IsImageAfter s decision image →
-    MakesAnew grain w command (entry_of w command settling decision) (one_more (left_behind grain w command plan.loop)) image
-makes_anew law grain entries w least command old p come few decisions s settling decision plan sames settles e image after =
+    (before : MetaImage) → kept_in before ≡ p.kept →
+    MakesAnew grain w before command (entry_of w command settling decision) (one_more (left_behind grain w command plan.loop)) image
+makes_anew law grain entries w least command old p come few decisions s settling decision plan sames settles e image after before is =
+    let next : Whole = one_more (left_behind grain w command plan.loop) in
     let b : BecomesAnew grain w least command plan.loop image = becoming law grain entries w least command old p come few decisions s settling decision plan sames image after in
     record {
       step = plan.commanded.step;
       every = refl;
       asked = refl;
       acts = acts grain w command decisions s settling decision plan settles e;
-      says = (p.kept.lost, anew_is grain entries w least command plan.loop (entry_of w command settling decision) old p come few plan.commanded no_lane (kept_in image) b.anew);
+      says = anew_is grain entries w least command plan.loop (entry_of w command settling decision) old p come few plan.commanded no_lane (kept_in image) b.anew
+          ∙ ap (λ (k : Kept). made_anew next next.rows k.lost) (sym is);
+      put = subst (λ (k : Kept). IsPutAnew (after_settling grain w) k.lost image) (sym is)
+          (putting law grain entries w least command old p come few decisions s settling decision plan sames image after);
     }
 
 -- ---- by the count
@@ -99,7 +106,7 @@ makes_anew law grain entries w least command old p come few decisions s settling
 -- it was cut short
 pub counts_into : {C D : Type 0} (seen : D → List ℕ) (may_leave : D → List ℕ → Type 0) (calls : D → ℕ) (stop : NotedStop) (old new : Noted C D) (history : HistoryState) (w : Whole) (least : List Row) (at : IsNotedAt seen may_leave old history w least)
     (command : Command) (entry : Entry) (next : Whole) (image : MetaImage) → Asks old.store.control.grain (agenda_of old.store.control.grain old.script) w (0, Asked command) →
-    MakesAnew old.store.control.grain w command entry next image → new.calls ≡ more_calls 6 old.calls → IsCutShort seen calls stop old.meta new.meta (with_fold (room_of seen old.meta) image) →
+    MakesAnew old.store.control.grain w at.counts.meter.image command entry next image → new.calls ≡ more_calls 6 old.calls → IsCutShort seen calls stop old.meta new.meta (with_fold (room_of seen old.meta) image) →
     CountsInto seen calls stop old new history w
 counts_into seen may_leave calls stop old new history w least at command entry next image asks makes counted short =
     let m : Meter = at.counts.meter in

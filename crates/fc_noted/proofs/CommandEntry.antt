@@ -36,7 +36,7 @@ use Rattle.fc_noted.proofs.CommandLanes.{have_volumes}
 use Rattle.fc_noted.proofs.CommandLeads.{Behind, leads_on, stands_behind, stops_behind}
 use Rattle.fc_noted.proofs.CommandStops.{anew_leaves, anew_stops, stayed_leaves, stayed_stops}
 use Rattle.fc_noted.proofs.Planned.{IsPlanned, becoming, entry_of, in_acted, in_acted_still, in_settled, in_stayed, in_unsettled, planned, same_lanes, stands_left}
-use Rattle.fc_noted.proofs.Standing.{has_come}
+use Rattle.fc_noted.proofs.Standing.{has_come, meter_says}
 use Rattle.fc_noted.specs.Making.{AnewOr, CountsInto, HasActed, HasStayed, IsHeldAt, IsImageAfter, LeavesAnew, MayHaveActed, TriesAnew}
 use Rattle.fc_noted.specs.Noted.{IsNotedAt}
 use Rattle.fc_noted.specs.Stopping.{HasStopped, HoldStill, LeavesRecoverable}
@@ -164,7 +164,8 @@ module _ {C D : Type 0} (seen : D → List ℕ) (may_leave : D → List ℕ → 
             let x : Noted C D = record old { store = mid.store } in
             let t : TriesAnew seen may_leave calls decision stop x new = subst (λ (z : Noted C D). TriesAnew seen may_leave calls decision stop z new) others tries in
             counts_into seen may_leave calls stop old new history w least at command (entry_of w command settling decision) (one_more (left_behind g w command plan.loop)) t.image (asks w at.told.0)
-            (makes_anew law g history.entries w least command old.store.lanes at.point come few_told decisions mid.store settling decision plan sames (settles decisions w few_then stood).0 e t.image t.after) t.counted t.short
+            (makes_anew law g history.entries w least command old.store.lanes at.point come few_told decisions mid.store settling decision plan sames (settles decisions w few_then stood).0 e t.image t.after
+            at.counts.meter.image (meter_says seen may_leave old history w least at)) t.counted t.short
 
         -- ---- at each moment
 

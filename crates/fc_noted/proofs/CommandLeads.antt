@@ -48,7 +48,7 @@ use Rattle.fc_noted.proofs.CommandCosts.{acts_not, makes_anew}
 use Rattle.fc_noted.proofs.Counting.{counted_as}
 use Rattle.fc_noted.proofs.Planned.{IsPlanned, becoming, entry_of, have_left, same_lanes, stands_left}
 use Rattle.fc_noted.proofs.Safe.{as_it_was}
-use Rattle.fc_noted.proofs.Standing.{has_come}
+use Rattle.fc_noted.proofs.Standing.{has_come, meter_says}
 use Rattle.fc_noted.specs.Making.{AnewOr, HasActed, IsHeldAt}
 use Rattle.fc_noted.specs.Metered.{CommandActs, Metered, Metered.anew, Metered.unchanged}
 use Rattle.fc_noted.specs.Noted.{IsNotedAt}
@@ -131,7 +131,8 @@ module _ {C D : Type 0} (seen : D → List ℕ) (may_leave : D → List ℕ → 
         meter = with_fold half x.image at.counts.meter;
         metered = subst (λ (n : ℕ). Metered g n (history.entries ++ entry ∷ []) (one_more left) (with_fold half x.image at.counts.meter)) (sym room)
             (anew history.entries w at.counts.meter entry (one_more left) command x.image at.counts.metered
-            (makes_anew law g history.entries w least command old.store.lanes p come few decisions s settling decision plan sames settles e x.image x.after));
+            (makes_anew law g history.entries w least command old.store.lanes p come few decisions s settling decision plan sames settles e x.image x.after
+            at.counts.meter.image (meter_says seen may_leave old history w least at)));
         measures = x.metered at.counts.meter at.counts.is;
         counted = calls_more 6 at.counts.meter.calls old.calls new.calls at.counts.calls x.calls;
       }

@@ -1,5 +1,5 @@
 -- What a command's two decisions, done one after the other, leave of a store and of its metadata.
-use Rattle.std.proofs.Common.{◌≡◌, ℕ, ◌+◌, ◌*◌, ◌<◌, ◌≤◌, Option, Some, None, List, ◌++◌, get_or, refl, sym, ap, subst, ◌∙◌, arith}
+use Rattle.std.proofs.Common.{◌≡◌, ℕ, ◌+◌, ◌*◌, ◌<◌, ◌≤◌, Option, Some, None, List, ◌++◌, get_or, inl, inr, refl, sym, ap, subst, ◌∙◌, arith}
 use Rattle.fc_base.specs.declared.command.Command.TheVariants.{Mkpreset, Read as ReadLine, Write as WriteLine}
 use Rattle.fc_base.specs.declared.command.Command.{Command}
 use Rattle.fc_base.specs.declared.decision.Decision.{Decision}
@@ -38,9 +38,11 @@ use Rattle.law_commanded.proofs.Now.{lost_left}
 use Rattle.law_commanded.proofs.Whole.{some_lane}
 use Rattle.law_commanded.specs.Lanes.{HasSameDisks, HaveLanes, NoneWent}
 use Rattle.law_commanded.specs.Law.{AreLanesIn, CommandedLaw, HasCome, IsAnew, IsCommanded, by_lanes, gone_by, left_behind}
+use Rattle.law_crash.specs.Leaving.{made_anew}
 use Rattle.law_crash.specs.Points.{Point}
 use Rattle.fc_noted.proofs.GoodIds.{good_ids, good_without}
-use Rattle.fc_noted.specs.Making.{HasActed, HasStayed, IsImageAfter, IsImageAfter.about, IsImageAfter.acted, told_by}
+use Rattle.fc_noted.specs.Making.{HasActed, HasStayed, IsImageAfter, IsImageAfter.about, IsImageAfter.acted, IsImageOf, IsImageWithout}
+use Rattle.fc_noted.specs.Metered.{IsPutAnew}
 
 -- ---- stores
 
@@ -130,59 +132,88 @@ module _ (law : CommandedLaw) (grain : GrainSize) (entries : List Entry) (w : Wh
         good = good_ids kept sound;
       }
 
-  pub becomes_acted : (new : StoreView) (image : MetaImage) → HasActed d s new → IsLawful grain (decisions + 1) settled d → ((v : Whole) → StandsFor new v → image ≡ told_by new v) → BecomesAnew grain w least command loop image
-  becomes_acted new image done lawful is =
-      let after : StandsAt (decisions + 1 + 1) new left = acted_at new done lawful in
-      let told : image ≡ meta_of (by_lanes left new.lanes) = is (one_more left) (stands_for (decisions + 1 + 1) new left (omega (arith, less)) after) in
-      subst (BecomesAnew grain w least command loop) (sym told)
-      (said_anew (by_lanes left new.lanes)
-      (record {
-        for = left;
-        least_for = least_by settled (least_by w least (settle w.books)) d;
-        leaves = LeastLeft.decided loop c.told;
-        lanes_for = new.lanes;
-        stand = have_lanes (decisions + 1 + 1) new grain left (done.grain ∙ same) after;
-        none_came = λ v i. i;
-        kept_is = refl;
-      }))
+  -- the store did it
+  module _ (new : StoreView) (done : HasActed d s new) (lawful : IsLawful grain (decisions + 1) settled d) where
+    acted_anew : IsAnew grain w least command loop (by_lanes left new.lanes)
+    acted_anew =
+        record {
+          for = left;
+          least_for = least_by settled (least_by w least (settle w.books)) d;
+          leaves = LeastLeft.decided loop c.told;
+          lanes_for = new.lanes;
+          stand = have_lanes (decisions + 1 + 1) new grain left (done.grain ∙ same) (acted_at new done lawful);
+          none_came = λ v i. i;
+          kept_is = refl;
+        }
 
-  -- that of what is settled is sound, too
+    acted_told : (image : MetaImage) → IsImageOf new image → image ≡ meta_of (by_lanes left new.lanes)
+    acted_told image is = is (one_more left) (stands_for (decisions + 1 + 1) new left (omega (arith, less)) (acted_at new done lawful))
+
+    pub becomes_acted : (image : MetaImage) → IsImageOf new image → BecomesAnew grain w least command loop image
+    becomes_acted image is = subst (BecomesAnew grain w least command loop) (sym (acted_told image is)) (said_anew (by_lanes left new.lanes) acted_anew)
+
+    acted_put : (image : MetaImage) → IsImageOf new image → image ≡ meta_of (kept_in image)
+    acted_put image is =
+        let kept : Kept = by_lanes left new.lanes in
+        let told : image ≡ meta_of kept = acted_told image is in
+        let sound : IsSoundKept kept = law.sound grain entries w least command loop entry old p kept come few c acted_anew in
+        told ∙ ap meta_of (sym (ap kept_in told ∙ said kept sound))
+
+  -- that of what is settled: with the grains that were lost. It is sound, too
+  settled_is : (ls : List LaneView) → HaveLanes grain settled ls → by_lanes settled ls ≡ made_anew settled settled.rows p.kept.lost
+  settled_is ls stand =
+      let here = from_run grain entries w least p come.run (omega (arith, few)) in
+      let other : LaneView = some_lane grain entries w least old p come (omega (arith, few)) in
+      ap (kept_of settled) (tables_alike (is_lost_at ls) (is_lost_in p.kept.lost) settled.books.tables.volumes
+      (λ v g i gl. lost_left grain w least command p here few settled (least_by w least (settle w.books)) LeastLeft.settled_alone ls stand other v g i gl))
+
   settled_kept : (ls : List LaneView) → HaveLanes grain settled ls → IsSoundKept (by_lanes settled ls)
   settled_kept ls stand =
       let here = from_run grain entries w least p come.run (omega (arith, few)) in
-      let least_settled : List Row = least_by w least (settle w.books) in
-      let other : LaneView = some_lane grain entries w least old p come (omega (arith, few)) in
-      subst IsSoundKept
-      (sym (ap (kept_of settled) (tables_alike (is_lost_at ls) (is_lost_in p.kept.lost) settled.books.tables.volumes
-      (λ v g i gl. lost_left grain w least command p here few settled least_settled LeastLeft.settled_alone ls stand other v g i gl))))
-      (all_behind grain w least command p here few settled least_settled LeastLeft.settled_alone).0.says.sound
+      subst IsSoundKept (sym (settled_is ls stand)) (all_behind grain w least command p here few settled (least_by w least (settle w.books)) LeastLeft.settled_alone).0.says.sound
 
   good_settled : (now : StoreView) → HaveLanes grain settled now.lanes → HasGoodIds (meta_of (by_lanes settled now.lanes))
   good_settled now stand = good_ids (by_lanes settled now.lanes) (settled_kept now.lanes stand)
 
-  pub becomes_without : (now : StoreView) (gone : VolId) (image : MetaImage) → HasStayed s now → gone_by grain w command loop ≡ Some gone → ((v : Whole) → StandsFor now v → image ≡ without gone (told_by now v)) →
-      BecomesAnew grain w least command loop image
-  becomes_without now gone image stay e is =
-      let here : StandsAt (decisions + 1) now settled = stay.stands (decisions + 1) settled at in
-      let stand : HaveLanes grain settled now.lanes = have_lanes (decisions + 1) now grain settled (stay.grain ∙ same) here in
-      let told : image ≡ without gone (meta_of (by_lanes settled now.lanes)) = is (one_more settled) (stands_for (decisions + 1) now settled (omega (arith, less)) here) in
-      let x = law.without_is grain entries w least command loop entry gone old now.lanes p come few c e stand in
-      let anew : IsAnew grain w least command loop (kept_in (without gone (meta_of (by_lanes settled now.lanes)))) =
-      record {
-        for = settled;
-        least_for = least_by w least (settle w.books);
-        leaves = LeastLeft.settled_alone;
-        lanes_for = now.lanes;
-        stand = stand;
-        none_came = x.1;
-        kept_is = x.0;
-      } in
-      subst (BecomesAnew grain w least command loop) (sym told) (record { anew = anew; sound = x.2; good = good_without gone (meta_of (by_lanes settled now.lanes)) (good_settled now stand) })
+  -- the store is about to
+  module _ (now : StoreView) (gone : VolId) (stay : HasStayed s now) where
+    stayed_at : StandsAt (decisions + 1) now settled
+    stayed_at = stay.stands (decisions + 1) settled at
+
+    have_settled : HaveLanes grain settled now.lanes
+    have_settled = have_lanes (decisions + 1) now grain settled (stay.grain ∙ same) stayed_at
+
+    told_without : (image : MetaImage) → IsImageWithout gone now image → image ≡ without gone (meta_of (by_lanes settled now.lanes))
+    told_without image is = is (one_more settled) (stands_for (decisions + 1) now settled (omega (arith, less)) stayed_at)
+
+    pub becomes_without : (image : MetaImage) → gone_by grain w command loop ≡ Some gone → IsImageWithout gone now image → BecomesAnew grain w least command loop image
+    becomes_without image e is =
+        let stand : HaveLanes grain settled now.lanes = have_settled in
+        let x = law.without_is grain entries w least command loop entry gone old now.lanes p come few c e stand in
+        let anew : IsAnew grain w least command loop (kept_in (without gone (meta_of (by_lanes settled now.lanes)))) =
+        record {
+          for = settled;
+          least_for = least_by w least (settle w.books);
+          leaves = LeastLeft.settled_alone;
+          lanes_for = now.lanes;
+          stand = stand;
+          none_came = x.1;
+          kept_is = x.0;
+        } in
+        subst (BecomesAnew grain w least command loop) (sym (told_without image is))
+        (record { anew = anew; sound = x.2; good = good_without gone (meta_of (by_lanes settled now.lanes)) (good_settled now stand) })
+
+    put_without : (image : MetaImage) → IsImageWithout gone now image → image ≡ without gone (meta_of (made_anew settled settled.rows p.kept.lost))
+    put_without image is = told_without image is ∙ ap (λ (k : Kept). without gone (meta_of k)) (settled_is now.lanes have_settled)
 
   -- by either
   pub becomes : (image : MetaImage) → IsLawful grain (decisions + 1) settled d → IsImageAfter s d image → BecomesAnew grain w least command loop image
-  becomes image lawful (acted new done none is) = becomes_acted new image done lawful is
-  becomes image lawful (about now gone stay e is) = becomes_without now gone image stay e is
+  becomes image lawful (acted new done none is) = becomes_acted new done lawful image is
+  becomes image lawful (about now gone stay e is) = becomes_without now gone stay image e is
+
+  pub put_so : (image : MetaImage) → IsLawful grain (decisions + 1) settled d → IsImageAfter s d image → IsPutAnew settled p.kept.lost image
+  put_so image lawful (acted new done none is) = inl (acted_put new done lawful image is)
+  put_so image lawful (about now gone stay e is) = inr (gone, put_without now gone stay image is)
 
   -- ---- the lanes meanwhile
 

@@ -60,7 +60,7 @@ use Rattle.fc_marks.specs.Marks.{marked}
 use Rattle.fc_marks.specs.Meter.{filled_size}
 use Rattle.fc_marks.specs.declared.marks.Mark.{Mark}
 use Rattle.fc_noted.proofs.CallsMade.{counts_still}
-use Rattle.fc_noted.specs.Metered.{Metered.opened as opened_meter}
+use Rattle.fc_noted.specs.Metered.{Metered.opened as opened_meter, first_image}
 use Rattle.fc_noted.specs.Noted.{BeginsOver, IsNotedAt, NoHistory}
 use Rattle.fc_noted.specs.Stopping.{LeavesFirst}
 use Rattle.fc_noted.specs.declared.noted.Noted.{Noted}
@@ -291,9 +291,9 @@ begins seen may_leave lanes disks n h =
         matches = match_begun grain lanes disks n.store.lanes h.begin n.named;
       };
       counts = record {
-        meter = record { image = h.image; generation = 1; used = filled_size h.image; calls = 4; full = None };
-        metered = opened_meter (opened (pools_dealt lanes disks)) h.image refl (ap kept_in h.empty) h.fit;
-        is = record { image = h.says; generation = h.generation; used = h.used; fits = refl };
+        meter = record { image = first_image; generation = 1; used = filled_size first_image; calls = 4; full = None };
+        metered = opened_meter (opened (pools_dealt lanes disks)) refl (subst (λ (i : MetaImage). 1 + filled_size i ≤ room_of seen n.meta) h.empty h.fit);
+        is = record { image = h.says ∙ ap Image h.empty; generation = h.generation; used = h.used ∙ ap filled_size h.empty; fits = refl };
         calls = h.called;
       };
     }

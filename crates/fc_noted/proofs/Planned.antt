@@ -30,8 +30,9 @@ use Rattle.law_commanded.specs.Lanes.{HaveLanes, NoneWent}
 use Rattle.law_commanded.specs.Law.{AreLanesIn, CommandedLaw, HasCome, IsCommanded, gone_by, left_behind, least_behind}
 use Rattle.law_commanded.proofs.Leaving.{from_run}
 use Rattle.fc_noted.proofs.CommandLanes.{none_goes_still, none_went_settled, none_went_still}
-use Rattle.fc_noted.proofs.Commanding.{BecomesAnew, acted_at, becomes, have_lanes, is_commanded, same_disks}
+use Rattle.fc_noted.proofs.Commanding.{BecomesAnew, acted_at, becomes, have_lanes, is_commanded, put_so, same_disks}
 use Rattle.fc_noted.specs.Making.{HasActed, HasStayed, IsImageAfter}
+use Rattle.fc_noted.specs.Metered.{IsPutAnew}
 use Rattle.fc_noted.specs.Stopping.{HoldStill}
 
 -- Its entry, with its number.
@@ -117,10 +118,15 @@ module _ (law : CommandedLaw) (grain : GrainSize) (entries : List Entry) (w : Wh
     pub lawful_there : IsLawful grain (decisions + 1) (after_settling grain w) (decided_on grain (after_settling grain w) command plan.loop)
     lawful_there = subst (λ (z : Decision). IsLawful grain (decisions + 1) (after_settling grain w) z) plan.is plan.lawful
 
-    -- what metadata becomes
+    -- what metadata becomes, and how that is put
     pub becoming : (image : MetaImage) → IsImageAfter s decision image → BecomesAnew grain w least command plan.loop image
     becoming image x =
         becomes law grain entries w least command plan.loop (entry_of w command settling decision) old p come few plan.commanded decisions plan.less s plan.same plan.at sames image lawful_there
+        (subst (λ (z : Decision). IsImageAfter s z image) plan.is x)
+
+    pub putting : (image : MetaImage) → IsImageAfter s decision image → IsPutAnew (after_settling grain w) p.kept.lost image
+    putting image x =
+        put_so law grain entries w least command plan.loop (entry_of w command settling decision) old p come few plan.commanded decisions plan.less s plan.same plan.at sames image lawful_there
         (subst (λ (z : Decision). IsImageAfter s z image) plan.is x)
 
     -- made ready, or done

@@ -1,5 +1,5 @@
 -- What a noted store that stands for a history has for a command, and what may be recovered while it is done.
-use Rattle.std.proofs.Common.{◌≡◌, ℕ, ◌<◌, List, Option, Some, None, sym, subst}
+use Rattle.std.proofs.Common.{◌≡◌, ℕ, ◌<◌, List, Option, Some, None, sym, ap, subst, ◌∙◌}
 use Rattle.fc_agenda.specs.Goes.{stays}
 use Rattle.fc_base.specs.declared.command.Command.{Command}
 use Rattle.fc_base.specs.declared.ids.VolId.{VolId}
@@ -17,6 +17,8 @@ use Rattle.fc_kept.specs.Sound.{IsSoundImage}
 use Rattle.fc_lane.specs.Lane.{LaneView}
 use Rattle.fc_legal.specs.Agenda.{Asks}
 use Rattle.fc_legal.specs.Whole.{Whole}
+use Rattle.fc_marks.proofs.Leaving.{one_image}
+use Rattle.fc_meta.specs.States.{found}
 use Rattle.fc_script.specs.Script.{agenda_of}
 use Rattle.fc_script.specs.declared.script.Script.{Script}
 use Rattle.fc_held.specs.Held.{HoldAllOf, MatchAll}
@@ -36,6 +38,12 @@ has_come seen may_leave n history w least at =
       lanes_are = record { count = at.told.0.count; each = at.told.0.each };
       matches = subst (λ (z : ℕ). MatchAll n.store.control.grain z at.point.kept n.store.lanes at.point.disks) at.keeps.named at.keeps.matches;
     }
+
+-- the meter's image is what metadata says
+pub meter_says : {C D : Type 0} (seen : D → List ℕ) (may_leave : D → List ℕ → Type 0) (n : Noted C D) (history : HistoryState) (w : Whole) (least : List Row) (at : IsNotedAt seen may_leave n history w least) →
+    kept_in at.counts.meter.image ≡ at.point.kept
+meter_says seen may_leave n history w least at =
+    ap kept_in (one_image (found seen n.meta) at.counts.meter.image at.keeps.image at.counts.is.image at.keeps.says) ∙ at.keeps.kept
 
 -- ---- a stop, with any lanes that stand while the command is done
 

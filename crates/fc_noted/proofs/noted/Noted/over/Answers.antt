@@ -1,11 +1,12 @@
 -- Over disks without names, with the first image.
-use Rattle.std.proofs.Common.{None, true, refl, sym, subst, ◌+◌, ◌∙◌, ◌≤◌, arith, ◌/◌, ap}
+use Rattle.std.proofs.Common.{None, true, refl, sym, subst, ◌+◌, ◌∙◌, ◌<◌, ◌≤◌, arith, ◌/◌, ap}
+use Rattle.fc_format.specs.Halves.{half_size}
 use Rattle.fc_format.specs.Ranges.{HasGoodIds}
+use Rattle.fc_image.specs.declared.image.MetaImage.{MetaImage}
 use Rattle.fc_lanes.specs.Dealing.{pools_dealt}
 use Rattle.fc_script.specs.declared.script.Script.TheVariants.{Over}
 use Rattle.fc_noted.specs.declared.noted.Noted.{Noted}
 use Rattle.fc_noted.proofs.Opening.{begins, first_ids, image_of_nothing, leaves_first, leaves_untouched, not_log, was_failed, was_full}
-use Rattle.fc_kept.specs.Images.{kept_in}
 use Rattle.fc_marks.proofs.Counting.{some_made}
 use Rattle.fc_marks.specs.Meter.{filled_size}
 use Rattle.fc_noted.proofs.Calls.{at_once}
@@ -84,4 +85,4 @@ returns-clause-failed g c = λ is. c.in-Err-open.ensures.failed (was_failed c.in
 pub returns-clause-full : goal.returns-clause-full
 returns-clause-full g c = λ is.
     let empty = image_of_nothing c.args.store c.control.result.now c.all_lanes.result.now (pools_dealt 4 c.requires.begins.0) c.in-Ok.image c.control.ensures c.all_lanes.ensures c.requires.begins.1.stands c.in-Ok.ensures in
-    (c.in-Ok.image, ap kept_in empty, c.in-Err-open.ensures.full (was_full c.in-Err-open.error (sym c.stop_of.ensures ∙ is)))
+    subst (λ (i : MetaImage). half_size (g.M.MetaDisk.seen c.args.disk) < 1 + filled_size i) empty (c.in-Err-open.ensures.full (was_full c.in-Err-open.error (sym c.stop_of.ensures ∙ is)))
