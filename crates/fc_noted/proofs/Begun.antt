@@ -12,12 +12,8 @@ use Rattle.fc_lane.specs.Lane.{LaneView, of}
 use Rattle.fc_lane.specs.declared.doing.Doing.{Doing}
 use Rattle.fc_legal.specs.Agenda.{Asks}
 use Rattle.fc_legal.specs.Whole.{Whole, lane_at, lanes}
-use Rattle.fc_image.specs.declared.image.MetaImage.{MetaImage}
-use Rattle.fc_kept.specs.Images.{kept_in}
 use Rattle.fc_kept.specs.Kept.{Kept}
-use Rattle.fc_marks.proofs.Leaving.{one_image}
 use Rattle.fc_marks.specs.declared.error.NotedStop.TheVariants.{LogFull}
-use Rattle.fc_meta.specs.States.{found}
 use Rattle.fc_noted.specs.Metered.{Acted}
 use Rattle.fc_marks.specs.declared.error.NotedStop.{NotedStop}
 use Rattle.fc_noted.proofs.Beginning.{begun_steps, begun_steps_are}
@@ -26,6 +22,7 @@ use Rattle.fc_noted.proofs.Counting.{has_counted}
 use Rattle.fc_noted.proofs.Holding.{HoldSame, have_same, match_same, one_same}
 use Rattle.fc_noted.proofs.Metering.{begun_so}
 use Rattle.fc_noted.proofs.Moments.{doing_found, hold_either, resting_found, still_leaves}
+use Rattle.fc_noted.proofs.Standing.{meter_says}
 use Rattle.fc_noted.proofs.Stepping.{same_stop}
 use Rattle.fc_noted.specs.Making.{StepMade}
 use Rattle.fc_noted.specs.Noted.{CanBegin, IsAt, IsAtBy, IsDoing, IsNotedAt}
@@ -174,11 +171,10 @@ module _ {C D : Type 0} (seen : D → List ℕ) (may_leave : D → List ℕ → 
             };
             counts =
                 let c = at.counts in
-                let same : c.meter.image ≡ k.image = one_image (found seen n.meta) c.meter.image k.image c.is.image k.says in
                 record {
                   before = c.meter;
                   metered = c.metered;
-                  same = ap (λ (i : MetaImage). (kept_in i).rows) same ∙ ap (λ (z : Kept). z.rows) k.kept;
+                  same = ap (λ (z : Kept). z.rows) (meter_says seen may_leave n history w least at);
                   actions = [];
                   acted = none_acted;
                   is = c.is;
