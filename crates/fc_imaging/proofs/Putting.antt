@@ -4,7 +4,7 @@ use Rattle.std.specs.List.{range_with_len}
 use Rattle.std.proofs.lemmas.List.FromFn.{length-map-range_with_len}
 use Rattle.fc_bits.specs.Words.{words_for}
 use Rattle.fc_image.specs.Words.{bit_put}
-use Rattle.fc_kept.specs.Images.{words_from, words_of}
+use Rattle.fc_kept.specs.Images.{words_from, words_with}
 
 -- the bit of one grain more
 put_suc : (f : ℕ → Bool) (n a s j k : ℕ) (ws : List ℕ) → s + n ≡ j → a + n ≡ k →
@@ -24,7 +24,7 @@ put_more f n ws zs b e h =
     ∙ ap (λ (m : ℕ). words_from (map f (range_with_len 0 m)) 0 zs) next)
 
 -- of all grains
-pub all_put : (f : ℕ → Bool) (n : ℕ) → words_from (map f (range_with_len 0 n)) 0 (replicate (words_for n) 0) ≡ words_of (map f (range_with_len 0 n))
+pub all_put : (f : ℕ → Bool) (n : ℕ) → words_from (map f (range_with_len 0 n)) 0 (replicate (words_for n) 0) ≡ words_with (map f (range_with_len 0 n))
 all_put f n = ap (λ (m : ℕ). words_from (map f (range_with_len 0 n)) 0 (replicate (words_for m) 0)) (sym (length-map-range_with_len f 0 n))
 
 -- ---- the words of a row

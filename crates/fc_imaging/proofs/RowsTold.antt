@@ -5,7 +5,7 @@ use Rattle.fc_changed.specs.Row.{Row}
 use Rattle.fc_image.specs.declared.image.MetaChanges.{MetaChanges}
 use Rattle.fc_imaging.specs.Bits.{bit_told}
 use Rattle.fc_imaging.specs.declared.bits.Bits.TheVariants.{Changed, Kept}
-use Rattle.fc_kept.specs.Images.{words_of, changes_told}
+use Rattle.fc_kept.specs.Images.{words_with, changes_told}
 use Rattle.fc_lane.specs.Lane.{LaneView}
 use Rattle.fc_lane_sheet.specs.LaneSheet.{rows_of}
 use Rattle.fc_sums.specs.Parts.{rows_at, row_at, same_at, joined_row}
@@ -27,17 +27,17 @@ other_in row = if row.into == row.target then row.source else row.target
 pub row_is_told : (lanes : List LaneView) (rows : List Row) (k grains : ℕ) (row : Row) (id source into : ℕ) (changed kept : List ℕ) →
     rows ≡ rows_at (rows_of lanes) 0 → k < length rows → row ≡ get_or rows k row →
     grains ≡ sum_by (λ (part : List Row). length (row_at part k).same) (rows_of lanes) →
-    changed ≡ words_of (map (bit_told lanes (Changed k)) (range_with_len 0 grains)) →
-    kept ≡ words_of (map (bit_told lanes Kept) (range_with_len 0 grains)) →
+    changed ≡ words_with (map (bit_told lanes (Changed k)) (range_with_len 0 grains)) →
+    kept ≡ words_with (map (bit_told lanes Kept) (range_with_len 0 grains)) →
     id ≡ row.map → source ≡ other_in row → into ≡ row.into →
     made id source into changed kept ≡ changes_told (joined_row (rows_of lanes) k)
 row_is_told lanes rows k grains row id source into changed kept first there is size changed_is kept_is id_is source_is into_is =
     let same : ℕ → Bool = same_at (rows_of lanes) k in
     let own : row ≡ row_at (rows_at (rows_of lanes) 0) k = row_here rows k row there is ∙ ap (λ (xs : List Row). row_at xs k) first in
-    let c : changed ≡ words_of (map not (map same (range_with_len 0 (sum_by (λ (part : List Row). length (row_at part k).same) (rows_of lanes))))) =
-    changed_is ∙ ap words_of (changed_bits same 0 grains ∙ ap (λ (n : ℕ). map not (map same (range_with_len 0 n))) size) in
-    let h : kept ≡ words_of (replicate (length (map same (range_with_len 0 (sum_by (λ (part : List Row). length (row_at part k).same) (rows_of lanes))))) true) =
-    kept_is ∙ ap words_of (kept_bits same grains ∙ ap (λ (n : ℕ). replicate (length (map same (range_with_len 0 n))) true) size) in
+    let c : changed ≡ words_with (map not (map same (range_with_len 0 (sum_by (λ (part : List Row). length (row_at part k).same) (rows_of lanes))))) =
+    changed_is ∙ ap words_with (changed_bits same 0 grains ∙ ap (λ (n : ℕ). map not (map same (range_with_len 0 n))) size) in
+    let h : kept ≡ words_with (replicate (length (map same (range_with_len 0 (sum_by (λ (part : List Row). length (row_at part k).same) (rows_of lanes))))) true) =
+    kept_is ∙ ap words_with (kept_bits same grains ∙ ap (λ (n : ℕ). replicate (length (map same (range_with_len 0 n))) true) size) in
     let m = id_is ∙ ap (λ (r : Row). r.map) own in
     let s = source_is ∙ ap other_in own in
     let t = into_is ∙ ap (λ (r : Row). r.into) own in

@@ -21,8 +21,8 @@ first_is_other gone (slot ∷ slots) = not (slot.volume.0 == gone.0)
 abbrev pub begins_else : VolId → MetaChain → Bool
 begins_else gone chain = first_is_other gone chain.slots
 
-abbrev pub without : VolId → MetaImage → MetaImage
-without gone image =
+abbrev pub leaving_out : VolId → MetaImage → MetaImage
+leaving_out gone image =
     record image {
       volumes = filter (is_other gone) image.volumes;
       chains = filter (begins_else gone) image.chains;

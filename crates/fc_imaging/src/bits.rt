@@ -5,7 +5,7 @@ ghost use Rattle.std.specs.List.{range_with_len};
 ghost use Rattle.fc_base.specs.Sheet.{slot_at};
 ghost use Rattle.fc_bits.specs.Words.{words_for};
 ghost use Rattle.fc_imaging.specs.Bits.{bit_told};
-ghost use Rattle.fc_kept.specs.Images.{words_of};
+ghost use Rattle.fc_kept.specs.Images.{words_with};
 ghost use Rattle.fc_sums.specs.Parts.{row_at};
 
 use fc_base::ids::VolId;
@@ -107,7 +107,7 @@ pub(crate) fn words<D: Mdisk>(
     bits: Bits,
     grains: u32,
 ) -> Result<Words, NoMemory>
-    ensures { IfOk result (λ words. words ≡ words_of (map_list (bit_told lanes.now bits) (range_with_len 0 grains))) }
+    ensures { IfOk result (λ words. words ≡ words_with (map_list (bit_told lanes.now bits) (range_with_len 0 grains))) }
 {
     let mut words = no_bits(alloc, grains)?;
     for grain in 0..grains {

@@ -2,7 +2,7 @@
 
 ghost use Rattle.std.specs.Prelude.{◌≡◌, IfOk, filter, map as map_list};
 ghost use Rattle.fc_imaging.specs.Imaging.{kept_by_parts, lost_grains};
-ghost use Rattle.fc_imaging.specs.Without.{begins_else, is_other, is_other_row, without};
+ghost use Rattle.fc_imaging.specs.Without.{begins_else, is_other, is_other_row, leaving_out};
 ghost use Rattle.fc_kept.specs.Images.{chains_told, lost_told, meta_of};
 ghost use Rattle.fc_lane_sheet.specs.LaneSheet.{chains_of, sheet_of};
 ghost use Rattle.fc_sums.specs.Parts.{sheet_at};
@@ -101,7 +101,7 @@ pub fn image_without<D: Mdisk>(
     lanes: &[Lane<D>],
     gone: VolId,
 ) -> Result<MetaImage, NoMemory>
-    ensures { IfOk result (λ image. image ≡ without gone (meta_of (kept_by_parts control.now lanes.now))) }
+    ensures { IfOk result (λ image. image ≡ leaving_out gone (meta_of (kept_by_parts control.now lanes.now))) }
 {
     let tables = control.registry();
     let all = tables.all_volumes();

@@ -15,7 +15,7 @@ use Rattle.fc_changed.specs.Row.{Row}
 use Rattle.fc_image.specs.declared.image.MetaChain.{MetaChain}
 use Rattle.fc_legal.specs.Stands.{IsOfMapping}
 use Rattle.fc_kept.specs.Kept.{LostGrains, Kept}
-use Rattle.fc_kept.specs.Images.{size_in, slot_in, slots_in, row_of, row_in, lost_in, kept_in, words_of, slot_told, alone_told, before_chains, chains_told, changes_told, lost_told, meta_of}
+use Rattle.fc_kept.specs.Images.{size_in, slot_in, slots_in, row_of, row_in, lost_in, kept_in, words_with, slot_told, alone_told, before_chains, chains_told, changes_told, lost_told, meta_of}
 use Rattle.fc_kept.specs.Sound.{books_of, IsSoundKept}
 use Rattle.fc_kept.proofs.Words.{words_back, difference_back}
 use Rattle.fc_kept.proofs.Sizes.{slot_size, row_size, found_mapping}
@@ -85,10 +85,10 @@ row_back k sound row r =
     let size : length row.same ≡ n = row_size t row r (sound.agree.mappings m r.there) in
     let own : m.id ≡ id = ap (λ (z : ℕ). let w : MapId = record { 0 = z } in w) r.id_is in
     let there : mapping_with t id ≡ Some m = ap (mapping_with t) (sym own) ∙ found_mapping (books_of k) sound.tables m r.there in
-    let kept : grains_of n (words_of (replicate (length row.same) true)) ≡ replicate (length row.same) true = words_back n (replicate (length row.same) true) (length-replicate (length row.same) true ∙ size) in
-    let changed : grains_of n (words_of (map not row.same)) ≡ map not row.same = words_back n (map not row.same) (length-map row.same not ∙ size) in
-    let same : difference (grains_of n (words_of (replicate (length row.same) true))) (grains_of n (words_of (map not row.same))) ≡ row.same =
-    ap (λ (z : List Bool). difference z (grains_of n (words_of (map not row.same)))) kept
+    let kept : grains_of n (words_with (replicate (length row.same) true)) ≡ replicate (length row.same) true = words_back n (replicate (length row.same) true) (length-replicate (length row.same) true ∙ size) in
+    let changed : grains_of n (words_with (map not row.same)) ≡ map not row.same = words_back n (map not row.same) (length-map row.same not ∙ size) in
+    let same : difference (grains_of n (words_with (replicate (length row.same) true))) (grains_of n (words_with (map not row.same))) ≡ row.same =
+    ap (λ (z : List Bool). difference z (grains_of n (words_with (map not row.same)))) kept
     ∙ (ap (difference (replicate (length row.same) true)) changed ∙ difference_back row.same) in
     ap (row_of t (changes_told row)) there
     ∙ (λ i. record { map = row.map; source = r.source_is i; target = r.target_is i; into = row.into; same = same i })

@@ -27,7 +27,7 @@ use Rattle.fc_image.specs.declared.record.MetaRecord.TheVariants.{Pair, Written,
 use Rattle.fc_legal.specs.Stands.{IsOfMapping}
 use Rattle.fc_moves.proofs.Search.{cases_option}
 use Rattle.fc_kept.specs.Kept.{LostGrains, Kept}
-use Rattle.fc_kept.specs.Images.{grains_told, size_in, tables_in, kept_in, words_from, words_of, slot_told, alone_told, before_chains, chains_told, changes_told, lost_told, meta_of}
+use Rattle.fc_kept.specs.Images.{grains_told, size_in, tables_in, kept_in, words_from, words_with, slot_told, alone_told, before_chains, chains_told, changes_told, lost_told, meta_of}
 use Rattle.fc_kept.specs.Sound.{books_of, IsSoundKept, HasTidySlots, HasTidyLost, HasTidyChanges, IsSoundImage, FitsRecord, FitsChains}
 use Rattle.fc_kept.proofs.Words.{with_is, without_is}
 use Rattle.fc_kept.proofs.Sizes.{slot_size, row_size, found_mapping, names_is, named_size}
@@ -45,9 +45,9 @@ tidy_from : (n : ℕ) (bs : List Bool) (g : ℕ) (words : List ℕ) → IsTidy n
 tidy_from n [] g words tidy le = tidy
 tidy_from n (b ∷ bs) g words tidy le = tidy_from n bs (suc g) (bit_put words g b) (tidy_put n words g b tidy (omega arith)) (omega arith)
 
-tidy_words : (n : ℕ) (grains : List Bool) → length grains ≡ n → n < 2 ^ 32 → IsTidy n (words_of grains)
+tidy_words : (n : ℕ) (grains : List Bool) → length grains ≡ n → n < 2 ^ 32 → IsTidy n (words_with grains)
 tidy_words n grains e low =
-    subst (λ (x : ℕ). IsTidy x (words_of grains)) e
+    subst (λ (x : ℕ). IsTidy x (words_with grains)) e
     (tidy_from (length grains) grains 0 (replicate (words_for (length grains)) 0) (tidy-zeros (length grains) (words_for (length grains)) (omega (arith, e)) refl) (omega arith))
 
 tidy_if : (b : Bool) (n : ℕ) (words : List ℕ) (g : ℕ) (value : Bool) → IsTidy n words → (b ≡ true → g < n) → IsTidy n (if b then bit_put words g value else words)

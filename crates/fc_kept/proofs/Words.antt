@@ -7,7 +7,7 @@ use Rattle.fc_bits.specs.Grains.{difference}
 use Rattle.fc_bits.specs.Words.{grains_of, words_for}
 use Rattle.fc_bits.proofs.Bridge.{with_grain, without_grain, grains_of-with, grains_of-without, length-grains_of}
 use Rattle.fc_image.specs.Words.{with_bit, without_bit, bit_put}
-use Rattle.fc_kept.specs.Images.{words_from, words_of}
+use Rattle.fc_kept.specs.Images.{words_from, words_with}
 
 -- ---- a bit put
 
@@ -43,9 +43,9 @@ sets_all xs ys e =
     sets-eq ys xs 0 (omega arith)
     ∙ (ap (λ (z : List Bool). ys ++ z) (drop_all (0 + length ys) xs (omega arith)) ∙ append_none ys)
 
-pub words_back : (n : ℕ) (grains : List Bool) → length grains ≡ n → grains_of n (words_of grains) ≡ grains
+pub words_back : (n : ℕ) (grains : List Bool) → length grains ≡ n → grains_of n (words_with grains) ≡ grains
 words_back n grains e =
-    subst (λ (x : ℕ). grains_of x (words_of grains) ≡ grains) e
+    subst (λ (x : ℕ). grains_of x (words_with grains) ≡ grains) e
     (from_grains (length grains) grains 0 (replicate (words_for (length grains)) 0) (length-replicate {A = ℕ} (words_for (length grains)) 0) (omega arith)
     ∙ sets_all (grains_of (length grains) (replicate (words_for (length grains)) 0)) grains (length-grains_of (length grains) (replicate (words_for (length grains)) 0)))
 

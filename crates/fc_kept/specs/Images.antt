@@ -90,8 +90,8 @@ abbrev pub words_from : List Bool → ℕ → List ℕ → List ℕ
 words_from [] g words = words
 words_from (b ∷ bs) g words = words_from bs (suc g) (bit_put words g b)
 
-abbrev pub words_of : List Bool → List ℕ
-words_of grains = words_from grains 0 (replicate (words_for (length grains)) 0)
+abbrev pub words_with : List Bool → List ℕ
+words_with grains = words_from grains 0 (replicate (words_for (length grains)) 0)
 
 abbrev pub slot_told : Slot → MetaSlot
 slot_told slot =
@@ -100,7 +100,7 @@ slot_told slot =
       volume = record { 0 = slot.volume };
       live = slot.is_live;
       map = option_map (λ m. record { 0 = m }) slot.mapping;
-      held = words_of slot.held;
+      held = words_with slot.held;
     }
 
 -- Slots that stand side by side with one label are a chain.
@@ -125,12 +125,12 @@ changes_told row =
       map = record { 0 = row.map };
       last_source = Some record { 0 = if row.into == row.target then row.source else row.target };
       last_target = Some record { 0 = row.into };
-      changed = words_of (map not row.same);
-      kept = words_of (replicate (length row.same) true);
+      changed = words_with (map not row.same);
+      kept = words_with (replicate (length row.same) true);
     }
 
 abbrev pub lost_told : LostGrains → MetaLost
-lost_told row = record { volume = record { 0 = row.volume }; lost = words_of row.lost }
+lost_told row = record { volume = record { 0 = row.volume }; lost = words_with row.lost }
 
 abbrev pub meta_of : Kept → MetaImage
 meta_of k =

@@ -8,7 +8,7 @@ use Rattle.fc_desk.specs.Control.{ControlState}
 use Rattle.fc_format.specs.Halves.{Found, Image, recovered}
 use Rattle.fc_image.specs.declared.image.MetaImage.{MetaImage}
 use Rattle.fc_imaging.specs.Imaging.{kept_by_parts, kept_of, lost_grains}
-use Rattle.fc_imaging.specs.Without.{without}
+use Rattle.fc_imaging.specs.Without.{leaving_out}
 use Rattle.fc_imaging.proofs.Standing.{parts_are}
 use Rattle.fc_kept.specs.Images.{meta_of}
 use Rattle.fc_lane.specs.Lane.{LaneView}
@@ -47,15 +47,15 @@ pub image_is : (s : StoreView) (control : ControlState) (lanes : List LaneView) 
 image_is s control lanes image c l is =
     subst (λ (p : StoreView). IsImageOf p image) (let parts : StoreView = record { control = control; lanes = lanes } in let same : parts ≡ s = (λ i. record { control = c i; lanes = l i }) in same) is
 
-pub image_without_is : (s : StoreView) (control : ControlState) (lanes : List LaneView) (gone : VolId) (image : MetaImage) → control ≡ s.control → lanes ≡ s.lanes → image ≡ without gone (meta_of (kept_by_parts control lanes)) →
+pub image_without_is : (s : StoreView) (control : ControlState) (lanes : List LaneView) (gone : VolId) (image : MetaImage) → control ≡ s.control → lanes ≡ s.lanes → image ≡ leaving_out gone (meta_of (kept_by_parts control lanes)) →
     IsImageWithout gone s image
 image_without_is s control lanes gone image c l is w st =
-    is ∙ ((λ i. without gone (meta_of (kept_by_parts (c i) (l i)))) ∙ ap (λ k. without gone (meta_of k)) (parts_are s w st))
+    is ∙ ((λ i. leaving_out gone (meta_of (kept_by_parts (c i) (l i)))) ∙ ap (λ k. leaving_out gone (meta_of k)) (parts_are s w st))
 
 -- ---- the image that metadata becomes
 
 pub about_image : (old now : StoreView) (d : Decision) (gone : VolId) (control : ControlState) (lanes : List LaneView) (image : MetaImage) → IsReserved old now → removed_by d.events ≡ Some gone →
-    control ≡ now.control → lanes ≡ now.lanes → image ≡ without gone (meta_of (kept_by_parts control lanes)) → IsImageAfter old d image
+    control ≡ now.control → lanes ≡ now.lanes → image ≡ leaving_out gone (meta_of (kept_by_parts control lanes)) → IsImageAfter old d image
 about_image old now d gone control lanes image r e c l is = about now gone (stayed old now r) e (image_without_is now control lanes gone image c l is)
 
 pub acted_image : (old mid new : StoreView) (d : Decision) (control : ControlState) (lanes : List LaneView) (image : MetaImage) → IsReserved old mid → IsDone d mid new → removed_by d.events ≡ None →

@@ -15,7 +15,7 @@ use Rattle.fc_entry.specs.declared.entry.Entry.{Entry}
 use Rattle.fc_format.specs.Ranges.{HasGoodIds}
 use Rattle.fc_image.specs.declared.image.MetaImage.{MetaImage}
 use Rattle.fc_imaging.specs.Imaging.{is_lost_at, kept_of}
-use Rattle.fc_imaging.specs.Without.{without}
+use Rattle.fc_imaging.specs.Without.{leaving_out}
 use Rattle.fc_kept.specs.Images.{kept_in, meta_of}
 use Rattle.fc_kept.specs.Kept.{Kept, is_lost_in}
 use Rattle.fc_kept.specs.Marks.{LeastLeft, least_by}
@@ -183,14 +183,14 @@ module _ (law : CommandedLaw) (grain : GrainSize) (entries : List Entry) (w : Wh
     have_settled : HaveLanes grain settled now.lanes
     have_settled = have_lanes (decisions + 1) now grain settled (stay.grain ∙ same) stayed_at
 
-    told_without : (image : MetaImage) → IsImageWithout gone now image → image ≡ without gone (meta_of (by_lanes settled now.lanes))
+    told_without : (image : MetaImage) → IsImageWithout gone now image → image ≡ leaving_out gone (meta_of (by_lanes settled now.lanes))
     told_without image is = is (one_more settled) (stands_for (decisions + 1) now settled (omega (arith, less)) stayed_at)
 
     pub becomes_without : (image : MetaImage) → gone_by grain w command loop ≡ Some gone → IsImageWithout gone now image → BecomesAnew grain w least command loop image
     becomes_without image e is =
         let stand : HaveLanes grain settled now.lanes = have_settled in
         let x = law.without_is grain entries w least command loop entry gone old now.lanes p come few c e stand in
-        let anew : IsAnew grain w least command loop (kept_in (without gone (meta_of (by_lanes settled now.lanes)))) =
+        let anew : IsAnew grain w least command loop (kept_in (leaving_out gone (meta_of (by_lanes settled now.lanes)))) =
         record {
           for = settled;
           least_for = least_by w least (settle w.books);
@@ -203,8 +203,8 @@ module _ (law : CommandedLaw) (grain : GrainSize) (entries : List Entry) (w : Wh
         subst (BecomesAnew grain w least command loop) (sym (told_without image is))
         (record { anew = anew; sound = x.2; good = good_without gone (meta_of (by_lanes settled now.lanes)) (good_settled now stand) })
 
-    put_without : (image : MetaImage) → IsImageWithout gone now image → image ≡ without gone (meta_of (made_anew settled settled.rows p.kept.lost))
-    put_without image is = told_without image is ∙ ap (λ (k : Kept). without gone (meta_of k)) (settled_is now.lanes have_settled)
+    put_without : (image : MetaImage) → IsImageWithout gone now image → image ≡ leaving_out gone (meta_of (made_anew settled settled.rows p.kept.lost))
+    put_without image is = told_without image is ∙ ap (λ (k : Kept). leaving_out gone (meta_of k)) (settled_is now.lanes have_settled)
 
   -- by either
   pub becomes : (image : MetaImage) → IsLawful grain (decisions + 1) settled d → IsImageAfter s d image → BecomesAnew grain w least command loop image

@@ -19,7 +19,7 @@ use Rattle.fc_image.specs.declared.image.MetaChain.{MetaChain}
 use Rattle.fc_image.specs.declared.image.MetaChanges.{MetaChanges}
 use Rattle.fc_image.specs.declared.image.MetaImage.{MetaImage}
 use Rattle.fc_image.specs.declared.image.MetaSlot.{MetaSlot}
-use Rattle.fc_imaging.specs.Without.{begins_else, without}
+use Rattle.fc_imaging.specs.Without.{begins_else, leaving_out}
 use Rattle.fc_kept.specs.Images.{alone_told, before_chains, chains_told, changes_told, meta_of, slot_told}
 use Rattle.fc_kept.specs.Kept.{Kept}
 use Rattle.fc_kept.specs.Sound.{IsInto, IsSoundKept}
@@ -130,7 +130,7 @@ good_ids k s =
     }
 
 -- And in one without a volume.
-pub good_without : (gone : VolId) (image : MetaImage) → HasGoodIds image → HasGoodIds (without gone image)
+pub good_without : (gone : VolId) (image : MetaImage) → HasGoodIds image → HasGoodIds (leaving_out gone image)
 good_without gone image good =
     record {
       groups = good.groups;

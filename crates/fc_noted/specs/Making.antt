@@ -16,7 +16,7 @@ use Rattle.fc_entry.specs.declared.entry.Entry.{Entry}
 use Rattle.fc_format.specs.Halves.{Image, recovered}
 use Rattle.fc_image.specs.declared.image.MetaImage.{MetaImage}
 use Rattle.fc_imaging.specs.Imaging.{kept_of, lost_grains}
-use Rattle.fc_imaging.specs.Without.{without}
+use Rattle.fc_imaging.specs.Without.{leaving_out}
 use Rattle.fc_kept.specs.Images.{meta_of}
 use Rattle.fc_lane.specs.Lane.{IsSameLane, LaneView}
 use Rattle.fc_lanes.specs.AllLanes.{EachLane}
@@ -161,7 +161,7 @@ abbrev pub IsImageOf : StoreView → MetaImage → Type 0
 IsImageOf s image = (w : Whole) → StandsFor s w → image ≡ told_by s w
 
 abbrev pub IsImageWithout : VolId → StoreView → MetaImage → Type 0
-IsImageWithout gone s image = (w : Whole) → StandsFor s w → image ≡ without gone (told_by s w)
+IsImageWithout gone s image = (w : Whole) → StandsFor s w → image ≡ leaving_out gone (told_by s w)
 
 -- What metadata becomes by a decision: an image of the store that did it; or, where a volume goes, one without it of the store that is about to.
 pub data IsImageAfter (s : StoreView) (d : Decision) (image : MetaImage) : Type 0 where

@@ -14,7 +14,7 @@ use Rattle.fc_image.specs.declared.image.MetaImage.{MetaImage}
 use Rattle.fc_image.specs.declared.record.MetaRecord.{MetaRecord}
 use Rattle.fc_image.specs.declared.record.MetaRecord.TheVariants.{Torn as TornRecord}
 use Rattle.fc_kept.specs.Actions.{Action, Action.Data, Action.Note, Action.Fold, actions_of_command, actions_of_stop, mark_of}
-use Rattle.fc_imaging.specs.Without.{without}
+use Rattle.fc_imaging.specs.Without.{leaving_out}
 use Rattle.fc_kept.specs.Images.{kept_in, meta_of}
 use Rattle.fc_kept.specs.Kept.{LostGrains, rows_kept}
 use Rattle.fc_kept.specs.Marks.{asked_write}
@@ -106,7 +106,7 @@ pub record CommandActs (grain : GrainSize) (w : Whole) (command : Command) (acti
 
 -- What it says is put as it is; or, where a volume goes, what is told behind the settling is, and then that volume left out.
 abbrev pub IsPutAnew : Whole → List LostGrains → MetaImage → Type 0
-IsPutAnew settled lost image = (image ≡ meta_of (kept_in image)) ⊎ ((gone : VolId) × (image ≡ without gone (meta_of (made_anew settled settled.rows lost))))
+IsPutAnew settled lost image = (image ≡ meta_of (kept_in image)) ⊎ ((gone : VolId) × (image ≡ leaving_out gone (meta_of (made_anew settled settled.rows lost))))
 
 -- It makes metadata anew by an image of what is told with its entry. Grains are lost that were by the image before.
 pub record MakesAnew (grain : GrainSize) (w : Whole) (before : MetaImage) (command : Command) (entry : Entry) (next : Whole) (image : MetaImage) : Type 0 where

@@ -25,7 +25,7 @@ use Rattle.fc_entry.specs.declared.entry.Entry.{Entry}
 use Rattle.fc_follow.specs.Following.{restarts}
 use Rattle.fc_image.specs.declared.image.MetaImage.{MetaImage}
 use Rattle.fc_imaging.specs.Imaging.{lost_grains, lost_of}
-use Rattle.fc_imaging.specs.Without.{begins_else, is_other, is_other_row, without}
+use Rattle.fc_imaging.specs.Without.{begins_else, is_other, is_other_row, leaving_out}
 use Rattle.fc_kept.specs.Images.{chains_told, changes_told, kept_in, lost_in, lost_told, meta_of, row_in, slots_in}
 use Rattle.fc_kept.specs.Kept.{Kept, LostGrains}
 use Rattle.fc_kept.specs.Marks.{LeastLeft.settled_alone, least_by}
@@ -131,7 +131,7 @@ same_lost gone ls vs =
     ∙ ap (map lost_told) (filter_map (lost_of ls) (λ (row : LostGrains). is_other_row gone (lost_told row)) vs)
 
 -- the image says so much, as that of these does
-image_says : (gone : VolId) (w : Whole) (ls : List LaneView) → AreApart gone w.books.sheet.slots → kept_in (without gone (meta_of (by_lanes w ls))) ≡ kept_in (meta_of (kept_without gone w ls))
+image_says : (gone : VolId) (w : Whole) (ls : List LaneView) → AreApart gone w.books.sheet.slots → kept_in (leaving_out gone (meta_of (by_lanes w ls))) ≡ kept_in (meta_of (kept_without gone w ls))
 image_says gone w ls apart =
     let t : Tables = tables_without gone w.books.tables in
     let slots : List Slot = w.books.sheet.slots in
@@ -147,7 +147,7 @@ image_says gone w ls apart =
       lost = map (lost_in t) (same_lost gone ls w.books.tables.volumes i);
     }
 
-image_is_sound : (gone : VolId) (w : Whole) (ls : List LaneView) → AreApart gone w.books.sheet.slots → IsSoundKept (kept_without gone w ls) → IsSoundImage (without gone (meta_of (by_lanes w ls)))
+image_is_sound : (gone : VolId) (w : Whole) (ls : List LaneView) → AreApart gone w.books.sheet.slots → IsSoundKept (kept_without gone w ls) → IsSoundImage (leaving_out gone (meta_of (by_lanes w ls)))
 image_is_sound gone w ls apart s =
     let t : Tables = tables_without gone w.books.tables in
     let slots : List Slot = w.books.sheet.slots in
@@ -255,5 +255,5 @@ module _ (grain : GrainSize) (entries : List Entry) (w : Whole) (least : List Ro
   sound_without : IsSoundKept (kept_without gone settled now)
   sound_without = subst IsSoundKept (sym (kept_is ∙ says_now)) (sound_left grain entries w least command loop entry old p come few c other)
 
-  pub without_all : let image : MetaImage = without gone (meta_of (by_lanes settled now)) in (kept_in image ≡ by_lanes left now) × NoneCame settled left × IsSoundImage image
+  pub without_all : let image : MetaImage = leaving_out gone (meta_of (by_lanes settled now)) in (kept_in image ≡ by_lanes left now) × NoneCame settled left × IsSoundImage image
   without_all = (image_says gone settled now apart ∙ (said (kept_without gone settled now) sound_without ∙ kept_is), none_came, image_is_sound gone settled now apart sound_without)

@@ -11,7 +11,7 @@ use Rattle.fc_books.specs.Deciding.{IsLoopOf, settle}
 use Rattle.fc_changed.specs.Row.{Row}
 use Rattle.fc_entry.specs.declared.entry.Entry.{Entry}
 use Rattle.fc_imaging.specs.Imaging.{kept_of, lost_grains}
-use Rattle.fc_imaging.specs.Without.{without}
+use Rattle.fc_imaging.specs.Without.{leaving_out}
 use Rattle.fc_kept.specs.Actions.{actions_of_command}
 use Rattle.fc_kept.specs.Disks.{NamedDisk}
 use Rattle.fc_kept.specs.Images.{kept_in, meta_of}
@@ -118,5 +118,5 @@ pub record CommandedLaw : Type 0 where
   pub without_is : (grain : GrainSize) (entries : List Entry) (w : Whole) (least : List Row) (command : Command) (loop : Option (List VolId)) (entry : Entry) (gone : VolId) →
       (old now : List LaneView) (p : Point) → let settled = after_settling grain w in
       HasCome grain entries w least old p → w.entries < 262144 → IsCommanded grain w command loop entry → gone_by grain w command loop ≡ Some gone → HaveLanes grain settled now →
-      let left = left_behind grain w command loop in let image = without gone (meta_of (by_lanes settled now)) in
+      let left = left_behind grain w command loop in let image = leaving_out gone (meta_of (by_lanes settled now)) in
       (kept_in image ≡ by_lanes left now) × NoneCame settled left × IsSoundImage image
