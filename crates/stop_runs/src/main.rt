@@ -1,8 +1,9 @@
 //! Sessions that stop at each call of their disk of metadata: what is printed, call by call.
 //!
-//! The first is that of docs/MANUAL.md, "Stops". Its calls are 40, so at the forty-first it isn't stopped. The other has two presets, from
-//! its fifteenth call to its last, which is the sixty-second. Before what is printed of each stands a line with the call, the status, and
-//! how many disks of data came back.
+//! The first is that of docs/MANUAL.md, "Stops". Its calls are 40, so at the forty-first it isn't stopped. The second has two presets, from
+//! its fifteenth call to its last, which is the sixty-second. The third is run over small disks of metadata, which get full: by an image,
+//! by a batch behind one, and by the first image. Before what is printed of each stands a line with the call, the status, and how many
+//! disks of data came back.
 #![tactic(auto)]
 
 ghost use Rattle.std.specs.Prelude.{◌<◌};
@@ -33,22 +34,43 @@ stopfcmap 0
 mkpreset -source c -preset backup -name d
 ";
 
-/// The bytes of the disk of metadata.
+/// The lines of a session for which a disk of metadata may be too small. Its volume's image takes 126 bytes of a half, the first gate
+/// included, and each write a batch of 14; with the second volume it would be 194.
+const FULL: &str = "mkvdisk -name A -size 64 -unit kb
+write A 0 1 11
+write A 0 1 22
+mkvdisk -name B -size 64 -unit kb
+";
+
+/// The bytes of a disk of metadata with room for each session.
 const META_BYTES: u32 = 4096;
+
+/// Those of a disk whose halves have room for the image and a batch, for the image alone, and not for the first image.
+const NO_SECOND_VOLUME: u32 = 280;
+
+const NO_BATCH: u32 = 260;
+
+const NO_IMAGE: u32 = 114;
 
 /// How many disks of data there are.
 const DISKS: u32 = 64;
 
-/// What is written of a session, stopped at this call: the status, how many disks come back, and the text.
-fn stopped_at(alloc: Global, session: &str, call: u32) -> Result<(u8, usize, MemSink), AllocError>
+/// What is written of a session over a disk of metadata of so many bytes, stopped at this call: the status, how many disks come back, and
+/// the text.
+fn stopped_at(
+    alloc: Global,
+    session: &str,
+    bytes: u32,
+    call: u32,
+) -> Result<(u8, usize, MemSink), AllocError>
     requires { 0 < call }
 {
-    let bytes = Vec::from_slice(alloc, session.as_bytes())?;
-    let mut source = MemSource::new(bytes, 4096, Vec::new(alloc));
+    let lines = Vec::from_slice(alloc, session.as_bytes())?;
+    let mut source = MemSource::new(lines, 4096, Vec::new(alloc));
     let mut sink = MemSink::new(alloc, Vec::new(alloc));
     let mut history = History::new(alloc);
     let mut disks = flat_disks(alloc, DISKS)?;
-    let Ok(meta) = StopMeta::new(alloc, META_BYTES, call) else {
+    let Ok(meta) = StopMeta::new(alloc, bytes, call) else {
         return Err(AllocError);
     };
     let status = run_over(
@@ -66,13 +88,28 @@ fn stopped_at(alloc: Global, session: &str, call: u32) -> Result<(u8, usize, Mem
 fn main(rt: HostRuntime) -> io::Result<()> {
     let alloc = rt.alloc();
     for call in 1..42 {
-        let (status, disks, sink) = stopped_at(alloc, SESSION, call)?;
+        let (status, disks, sink) = stopped_at(alloc, SESSION, META_BYTES, call)?;
         println!(rt; "== {call} status {status} disks {disks}")?;
         rt.stdout().write_all(sink.bytes())?;
     }
     for call in 15..64 {
-        let (status, disks, sink) = stopped_at(alloc, PRESETS, call)?;
+        let (status, disks, sink) = stopped_at(alloc, PRESETS, META_BYTES, call)?;
         println!(rt; "== presets {call} status {status} disks {disks}")?;
+        rt.stdout().write_all(sink.bytes())?;
+    }
+    for call in 11..30 {
+        let (status, disks, sink) = stopped_at(alloc, FULL, NO_SECOND_VOLUME, call)?;
+        println!(rt; "== full of an image {call} status {status} disks {disks}")?;
+        rt.stdout().write_all(sink.bytes())?;
+    }
+    for call in 11..19 {
+        let (status, disks, sink) = stopped_at(alloc, FULL, NO_BATCH, call)?;
+        println!(rt; "== full of a batch {call} status {status} disks {disks}")?;
+        rt.stdout().write_all(sink.bytes())?;
+    }
+    for call in 1..3 {
+        let (status, disks, sink) = stopped_at(alloc, FULL, NO_IMAGE, call)?;
+        println!(rt; "== full at first {call} status {status} disks {disks}")?;
         rt.stdout().write_all(sink.bytes())?;
     }
     Ok(())
